@@ -1,0 +1,6 @@
+-- The laws of sums, places, runs and worth, which every crate above cites.
+pub mod Cases
+pub mod Sums
+pub mod Places
+pub mod Runs
+pub mod Worth

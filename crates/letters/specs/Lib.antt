@@ -1,0 +1,5 @@
+-- Letters, their sums, and runs of them.
+pub mod Algebra
+pub mod Places
+pub mod Runs
+pub mod Worth

@@ -1,0 +1,38 @@
+// Letters: bytes under XOR, and the addition of one run of letters into another.
+ghost use mathlib.Core.Path.{_≡_};
+ghost use Prim.Native.Nat.{_+_, _≤_};
+ghost use lib.ListN.{length, take, drop};
+ghost use Rattle.letters.specs.Algebra.{xors};
+ghost use Rattle.letters.specs.Runs.{added};
+ghost use Rattle.letters.specs.Worth.{worth};
+
+// Adds the letters of `run` into `into`, from index `at` on. Every other letter of `into` stays as it was.
+// The answer is what the additions are worth in a count. The run must fit: at + run.len() <= into.len().
+pub fn add_run(into: &mut [u8], at: usize, run: &[u8]) -> usize
+    requires { ⌜ at + length (now run) ≤ length (now into) ⌝ }
+    ensures letters { λ r. ⌜ now (into .exit) ≡ added xors (now (into .entry)) at (now (run .entry)) ⌝ }
+    ensures count { λ r. ⌜ r ≡ worth (now (run .entry)) ⌝ }
+{
+    let mut i = 0;
+    while i < run.len() {
+        into[at + i] ^= run[i];
+        i += 1;
+    }
+    i
+}
+
+// Adds `count` letters of `buffer` that start at index `from` into the earlier letters that start at index `to`.
+// Every other letter stays as it was. The answer is what the additions are worth in a count.
+// The two runs must not overlap, and must fit: to + count <= from and from + count <= buffer.len().
+pub fn add_within(buffer: &mut [u8], to: usize, from: usize, count: usize) -> usize
+    requires { ⌜ (to + count ≤ from) × (from + count ≤ length (now buffer)) ⌝ }
+    ensures letters { λ r. ⌜ now (buffer .exit) ≡ added xors (now (buffer .entry)) to (take count (drop from (now (buffer .entry)))) ⌝ }
+    ensures count { λ r. ⌜ r ≡ worth (take count (drop from (now (buffer .entry)))) ⌝ }
+{
+    let mut i = 0;
+    while i < count {
+        buffer[to + i] ^= buffer[from + i];
+        i += 1;
+    }
+    i
+}
