@@ -1,0 +1,54 @@
+-- Document 01's rule has refined increasing differences: a step of one column is worth i - 1 places at node i.
+use mathlib.Core.Path.{_≡_, sym, subst}
+use mathlib.Core.Logic.{⊎-elim}
+use Prim.Native.Nat.{ℕ, zero, suc, _+_, _-_, _*_, _≤_, _<_}
+use native.Mathlib.Nat.{mul-le-mul, mul-le-mul-left, mul-pos, mul-add, add-mul, zero-mul, mul-zero, eq-or-lt-of-le}
+use native.Mathlib.Omega.{arith}
+use Rattle.shifts.specs.Rule.{ShiftRule, t, Refined}
+
+-- from the two inequalities: where two columns have one shift, the node is 1, since any node above 1 grows past node 1's
+pub only-at-one :
+    (t : ShiftRule) → ((i i′ j j′ : ℕ) → 1 ≤ i → i < i′ → 1 ≤ j → j < j′ → t i j′ + t i′ j < t i′ j′ + t i j)
+    → ((i j j′ : ℕ) → 1 ≤ i → 1 ≤ j → j < j′ → t i j ≤ t i j′) → (i j j′ : ℕ) → 1 ≤ i → 1 ≤ j → j < j′ → t i j ≡ t i j′ → i ≡ 1
+only-at-one t growing rising i j j′ lo lj h e =
+    ⊎-elim (λ one. sym one) (λ above. absurd (omega (arith, growing 1 i j j′ (omega arith) above lj h, rising 1 j j′ (omega arith) lj h)))
+    (eq-or-lt-of-le lo)
+
+rises : (i j j′ : ℕ) → 1 ≤ i → 1 ≤ j → j < j′ → t i j ≤ t i j′
+unfolding t
+rises i j j′ li lj h = mul-le-mul-left (i - 1) (omega arith)
+
+-- (a + e)(x + f) + ax is above a(x + f) + (a + e)x by ef
+crossed-by : (a e x f : ℕ) → 0 < e → 0 < f → a * (x + f) + (a + e) * x < (a + e) * (x + f) + a * x
+crossed-by a e x f he hf =
+    simp (mul-add, add-mul) (omega (arith, mul-pos he hf))
+
+crossed : (a b x y : ℕ) → a < b → x < y → a * y + b * x < b * y + a * x
+crossed a b x y ha hx =
+    subst (λ m. a * y + m * x < m * y + a * x) (back a b ha)
+    (subst (λ m. a * m + (a + (b - a)) * x < (a + (b - a)) * m + a * x) (back x y hx)
+    (crossed-by a (b - a) x (y - x) (omega arith) (omega arith)))
+  where
+    back : (a b : ℕ) → a < b → a + (b - a) ≡ b
+    back a b h = omega arith
+
+grows : (i i′ j j′ : ℕ) → 1 ≤ i → i < i′ → 1 ≤ j → j < j′ → t i j′ + t i′ j < t i′ j′ + t i j
+unfolding t
+grows i i′ j j′ li h lj h′ = crossed (i - 1) (i′ - 1) (j - 1) (j′ - 1) (omega arith) (omega arith)
+
+pub refined : Refined t
+refined = record { rising = rises; growing = grows; equal-only-at-one = only-at-one t grows rises }
+
+-- no shift of the table is above 225
+pub at-most : (i j : ℕ) → i ≤ 16 → j ≤ 16 → t i j ≤ 225
+unfolding t
+at-most i j hi hj = mul-le-mul {n₂ = 15} {m₂ = 15} (omega arith) (omega arith)
+
+-- node 1 and column 1 have no shift
+pub none-at-node-one : (j : ℕ) → t 1 j ≡ 0
+unfolding t
+none-at-node-one j = zero-mul (j - 1)
+
+pub none-at-column-one : (i : ℕ) → t i 1 ≡ 0
+unfolding t
+none-at-column-one i = mul-zero (i - 1)

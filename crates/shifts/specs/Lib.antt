@@ -1,0 +1,2 @@
+-- Shifts: how far a node moves a column.
+pub mod Rule
