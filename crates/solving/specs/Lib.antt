@@ -1,0 +1,2 @@
+-- The system that recovery and repair solve.
+pub mod System
