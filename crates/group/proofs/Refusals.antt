@@ -1,0 +1,92 @@
+-- Laws of refusal numbers: which test they tell of, which of two comes first, and what an answer then is.
+use mathlib.Core.Path.{_≡_, refl, sym, ap, subst, _∙_}
+use mathlib.Core.Bool.{Bool, true, false, not}
+use Prim.Native.Nat.{ℕ, zero, suc}
+use borrow.Author.Tests.{not-true, not-false}
+use native.Mathlib.Omega.{arith}
+use Rattle.letters.specs.Places.{both}
+use Rattle.group.specs.declared.Refusal.{Refusal}
+use Rattle.group.specs.declared.Refusal.the-variants.{Numbers, Length, Ids, Order, Input, Output, Unfinished, Malformed}
+use Rattle.group.specs.declared.Check.{Check}
+use Rattle.group.specs.declared.Answer.{Answer}
+use Rattle.group.specs.Answers.{refusalNumber, checkNumber, numberOf, valueOf, unless, first, ifFine, Answers}
+
+-- no refusal has the number 0
+pub numbered : (r : Refusal) → refusalNumber r ≡ 0 → ⊥
+numbered Numbers e = omega arith
+numbered Length e = omega arith
+numbered Ids e = omega arith
+numbered Order e = omega arith
+numbered Input e = omega arith
+numbered Output e = omega arith
+numbered Unfinished e = omega arith
+numbered Malformed e = omega arith
+
+-- a test that is refused by no number holds, and one that holds is not refused
+pub unless-none : (b : Bool) (r : ℕ) → (r ≡ 0 → ⊥) → unless b r ≡ 0 → b ≡ true
+unless-none true r n e = refl
+unless-none false r n e = absurd (n e)
+
+pub unless-holds : (b : Bool) (r : ℕ) → b ≡ true → unless b r ≡ 0
+unless-holds b r e = rw e
+
+pub unless-fails : (b : Bool) (r : ℕ) → b ≡ false → unless b r ≡ r
+unless-fails b r e = rw e
+
+-- where the first of two refuses, it is what comes out; where it doesn't, the second is
+pub first-refused : (a b : ℕ) → (a ≡ 0 → ⊥) → first a b ≡ a
+first-refused zero b n = absurd (n refl)
+first-refused (suc a) b n = refl
+
+pub first-fine : (a b : ℕ) → a ≡ 0 → first a b ≡ b
+first-fine a b e = rw e
+
+-- neither refuses where the first of them doesn't
+pub first-none : (a b : ℕ) → first a b ≡ 0 → (a ≡ 0) × (b ≡ 0)
+first-none zero b e = (refl, e)
+first-none (suc a) b e = absurd (omega arith)
+
+-- both tests hold where both do
+pub both-true : (a b : Bool) → both a b ≡ true → (a ≡ true) × (b ≡ true)
+both-true true b e = (refl, e)
+both-true false b e = (e, absurd (false≢true e))
+  where
+    false≢true : false ≡ true → ⊥
+    false≢true e = subst (λ (b : Bool). elim b as (λ _. Type 0) [ false ↦ Unit {0} | true ↦ ⊥ ]) e tt
+
+-- an answer that refuses by the number that is wanted
+pub refuses : (r : Refusal) (q v : ℕ) → refusalNumber r ≡ q → Answers (Answer.Refused r) q v
+refuses r zero v e = absurd (numbered r e)
+refuses r (suc q) v e = record { number = e; valued = refl }
+
+-- an answer that gives the wanted value where nothing refuses
+pub gives : (q w v : ℕ) → q ≡ 0 → w ≡ v → Answers (Answer.Value w) q v
+gives zero w v e h = record { number = refl; valued = h }
+gives (suc q) w v e h = absurd (omega arith)
+
+pub both-no : (b : Bool) → both b false ≡ false
+both-no true = refl
+both-no false = refl
+
+-- a test made by a call, and what it is the test of
+pub failed : (b test : Bool) → not b ≡ true → b ≡ test → test ≡ false
+failed b test n e = sym e ∙ not-true b n
+
+pub held : (b test : Bool) → not b ≡ false → b ≡ test → test ≡ true
+held b test n e = sym e ∙ not-false b n
+
+-- what a check found, and its number
+pub stopped : (k : Check) (r : Refusal) (a : ℕ) → k ≡ Check.Refused r → checkNumber k ≡ a → refusalNumber r ≡ a
+stopped k r a e h = ap checkNumber (sym e) ∙ h
+
+pub fine : (k : Check) (a : ℕ) → k ≡ Check.Fine → checkNumber k ≡ a → a ≡ 0
+fine k a e h = sym h ∙ ap checkNumber e
+
+-- a refusal of the first of two checks is what comes out of both; where it is fine, the second's number is
+pub passed-on :
+    (k : Check) (r : Refusal) (a b : ℕ) → k ≡ Check.Refused r → checkNumber k ≡ a → refusalNumber r ≡ first a b
+passed-on k r a b e h =
+    stopped k r a e h ∙ sym (first-refused a b (λ z. numbered r (stopped k r a e h ∙ z)))
+
+pub went-on : (k : Check) (a b n : ℕ) → k ≡ Check.Fine → checkNumber k ≡ a → n ≡ b → n ≡ first a b
+went-on k a b n e h q = q ∙ sym (first-fine a b (fine k a e h))

@@ -1,0 +1,22 @@
+-- `lengths::node` meets its contract: there are at most 15 packets.
+use native.Mathlib.Omega.{arith}
+use mathlib.Core.Path.{ap}
+use Prim.Native.Nat.{_-_, _*_}
+use native.Mathlib.Nat.{mul-le-mul}
+use Rattle.group.specs.Lengths.{nodeLetters}
+use borrow.Author.Needs.{needs}
+use Rattle.group.proofs.lengths.node.Statement.{statement}
+use Rattle.group.proofs.lengths.node.Tie as tie
+
+widened-requires : tie.Need-widened-requires
+widened-requires c κs = search needs
+
+mul-result : tie.Need-mul-result
+mul-result c = omega (arith, mul-le-mul {n₁ = c .before .before .args .g .d} {n₂ = 15} (omega arith) (c .before .widened .ensures .1))
+
+returns : tie.Need-returns
+unfolding nodeLetters
+returns c = ap (λ w. c .before .before .args .g .d * w) (c .before .widened .ensures .0)
+
+pub node-spec : {M : Type 1} → statement M
+node-spec = tie.close (tie.spec widened-requires mul-result returns)

@@ -1,0 +1,30 @@
+-- `group::share_bytes` meets its contract: a refusal is passed on, and where there is none the group is in range.
+use Rattle.group.proofs.InRange.{node-of}
+use Rattle.group.proofs.Refusals.{stopped, fine, refuses, gives}
+use borrow.Author.Needs.{needs}
+use Rattle.group.proofs.share_bytes.Statement.{statement}
+use Rattle.group.proofs.share_bytes.Tie as tie
+
+node-requires : tie.Need-node-requires
+node-requires c κs = search needs
+
+enum-known-refusal : tie.Need-enum-known-refusal
+enum-known-refusal c = search needs
+
+enum-told : tie.Need-enum-told
+enum-told c = search needs
+
+share-requires : tie.Need-share-requires
+share-requires c κs = let s = c .before .before in
+    node-of _ _ (fine _ _ (c .enum-told .given .1) (s .node .ensures))
+
+returns : tie.Need-returns
+returns c = refuses _ _ _ (stopped _ _ _ (c .before .refusal .given .1) (c .before .before .before .node .ensures))
+
+returns-2 : tie.Need-returns-2
+returns-2 c = gives _ _ _ (fine _ _ (c .before .enum-told .given .1) (c .before .before .before .node .ensures)) (c .share .ensures)
+
+pub share-bytes-spec : {M : Type 1} → statement M
+share-bytes-spec =
+    tie.close
+    (tie.spec node-requires enum-known-refusal enum-told share-requires returns returns-2)

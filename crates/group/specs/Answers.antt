@@ -1,0 +1,54 @@
+-- Document 01's number for each refusal, and what an answer's number and value are.
+use mathlib.Core.Path.{_≡_}
+use mathlib.Core.Bool.{Bool, true, false}
+use Prim.Native.Nat.{ℕ, zero, suc}
+use Rattle.group.specs.declared.Refusal.{Refusal}
+use Rattle.group.specs.declared.Refusal.the-variants.{Numbers, Length, Ids, Order, Input, Output, Unfinished, Malformed}
+use Rattle.group.specs.declared.Check.{Check}
+use Rattle.group.specs.declared.Answer.{Answer}
+
+-- the numbers of the table "What comes back when a call is turned down"
+abbrev pub refusalNumber : Refusal → ℕ
+refusalNumber Numbers = 1
+refusalNumber Length = 2
+refusalNumber Ids = 3
+refusalNumber Order = 4
+refusalNumber Input = 5
+refusalNumber Output = 6
+refusalNumber Unfinished = 7
+refusalNumber Malformed = 8
+
+-- a check's number: 0 where nothing is refused
+abbrev pub checkNumber : Check → ℕ
+checkNumber Check.Fine = 0
+checkNumber (Check.Refused r) = refusalNumber r
+
+-- an answer's number: 0 where nothing is refused
+abbrev pub numberOf : Answer → ℕ
+numberOf (Answer.Value v) = 0
+numberOf (Answer.Refused r) = refusalNumber r
+
+-- an answer's value; a refusal carries 0
+abbrev pub valueOf : Answer → ℕ
+valueOf (Answer.Value v) = v
+valueOf (Answer.Refused r) = 0
+
+-- the number r where the test fails, and 0 where it holds
+abbrev pub unless : Bool → ℕ → ℕ
+unless true r = 0
+unless false r = r
+
+-- the first of two numbers that refuses: checks stand in the table's order, so the lowest that applies comes out
+abbrev pub first : ℕ → ℕ → ℕ
+first zero r = r
+first (suc q) r = suc q
+
+-- v where nothing is refused, and else w: what a call answers, and what a lent buffer holds
+abbrev pub ifFine : {A : Type 0} → ℕ → A → A → A
+ifFine zero v w = v
+ifFine (suc r) v w = w
+
+-- an answer with this refusal number (0: none) and, where nothing is refused, this value
+pub record Answers (r : Answer) (refusal value : ℕ) : Type 0 where
+  pub number : numberOf r ≡ refusal
+  pub valued : valueOf r ≡ ifFine refusal value 0

@@ -1,0 +1,38 @@
+-- Every length, by name.
+use Prim.Native.Nat.{ℕ, _+_, _-_, _*_, _/_}
+use Rattle.shifts.specs.Rule.{t}
+use Rattle.group.specs.declared.Group.{Group}
+
+-- B, the sequences of a file: kd - k(k-1)/2
+unfoldable pub sequences : Group → ℕ
+sequences g = g .k * g .d - g .k * (g .k - 1) / 2
+
+-- the letters of a file: B*L
+unfoldable pub fileLetters : Group → ℕ
+unfolding sequences
+fileLetters g = sequences g * g .l
+
+-- the letters of packet j of node i: L + t(i,d)
+unfoldable pub packetLength : Group → ℕ → ℕ → ℕ
+packetLength g i j = g .l + t i (g .d)
+
+-- the index at which packet j of node i starts: its packets stand one after another
+unfoldable pub packetStart : Group → ℕ → ℕ → ℕ
+packetStart g i j = (j - 1) * (g .l + t i (g .d))
+
+-- T, the letters that node i holds: d(L + t(i,d))
+unfoldable pub nodeLetters : Group → ℕ → ℕ
+nodeLetters g i = g .d * (g .l + t i (g .d))
+
+-- L', the letters of a repair piece for node f: L + t(f,d)
+unfoldable pub repairLetters : Group → ℕ → ℕ
+repairLetters g f = g .l + t f (g .d)
+
+-- the blocks of a share of so many letters, the last one filled up with zeros: 64 letters a block
+abbrev pub blocks : ℕ → ℕ
+blocks letters = (letters + 63) / 64
+
+-- the bytes of node i's share: a head of 11, blocks of 65, an end of 5
+unfoldable pub shareBytes : Group → ℕ → ℕ
+unfolding nodeLetters
+shareBytes g i = 11 + blocks (nodeLetters g i) * 65 + 5

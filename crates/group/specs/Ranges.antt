@@ -1,0 +1,88 @@
+-- The ranges of document 01's "Group numbers and letters", and the refusals that follow from them.
+use mathlib.Core.Bool.{Bool, true, false, not}
+use mathlib.Core.List.{List, [], _∷_}
+use Prim.Native.Nat.{ℕ, _-_, _+_, _≤_}
+use lib.Dec.{leb, ltb, eqb}
+use lib.ListN.{length}
+use Rattle.letters.specs.Places.{both}
+use Rattle.group.specs.declared.Group.{Group}
+use Rattle.group.specs.Answers.{unless, first}
+
+-- x is one of lo..hi
+abbrev pub between : ℕ → ℕ → ℕ → Bool
+between lo hi x = both (leb lo x) (leb x hi)
+
+-- the most letters in a sequence
+abbrev pub longest : ℕ
+longest = 4096
+
+-- n is 3 to 16, and 2 <= k <= d <= n-1
+unfoldable pub numbersInRange : Group → Bool
+numbersInRange g = both (between 3 16 (g .n)) (both (between 2 (g .d) (g .k)) (leb (g .d) (g .n - 1)))
+
+-- L is 1 to 4,096
+unfoldable pub lengthInRange : Group → Bool
+lengthInRange g = between 1 longest (g .l)
+
+-- refusals 1 and 2
+unfoldable pub groupRefusal : Group → ℕ
+unfolding numbersInRange lengthInRange
+groupRefusal g = first (unless (numbersInRange g) 1) (unless (lengthInRange g) 2)
+
+-- refusal 3 of one id
+unfoldable pub idRefusal : Group → ℕ → ℕ
+idRefusal g i = unless (between 1 (g .n) i) 3
+
+-- refusals 1, 2 and 3 of a call that is handed one node
+unfoldable pub nodeRefusal : Group → ℕ → ℕ
+unfolding groupRefusal idRefusal
+nodeRefusal g i = first (groupRefusal g) (idRefusal g i)
+
+-- every id is one of 1..n
+unfoldable pub allInRange : ℕ → List ℕ → Bool
+allInRange n [] = true
+allInRange n (i ∷ ids) = both (between 1 n i) (allInRange n ids)
+
+-- each id is below the one before it
+unfoldable pub falling : List ℕ → Bool
+falling [] = true
+falling (i ∷ []) = true
+falling (i ∷ (j ∷ ids)) = both (ltb j i) (falling (j ∷ ids))
+
+-- one of the tests holds
+abbrev pub either : Bool → Bool → Bool
+either true b = true
+either false b = b
+
+-- f is one of the ids
+unfoldable pub among : ℕ → List ℕ → Bool
+among f [] = false
+among f (i ∷ ids) = either (eqb i f) (among f ids)
+
+-- refusals 3 and 4 of a list of ids that must be so many
+unfoldable pub idsRefusal : Group → ℕ → List ℕ → ℕ
+unfolding allInRange falling
+idsRefusal g wanted ids = first (unless (both (eqb (length ids) wanted) (allInRange (g .n) ids)) 3) (unless (falling ids) 4)
+
+-- refusals 5 and 6: a lent input or output has exactly the wanted length
+abbrev pub inputRefusal : ℕ → ℕ → ℕ
+inputRefusal wanted has = unless (eqb has wanted) 5
+
+abbrev pub outputRefusal : ℕ → ℕ → ℕ
+outputRefusal wanted has = unless (eqb has wanted) 6
+
+-- A group whose numbers are all in range.
+pub record InRange (g : Group) : Type 0 where
+  pub n-low : 3 ≤ g .n
+  pub n-high : g .n ≤ 16
+  pub k-low : 2 ≤ g .k
+  pub k-high : g .k ≤ g .d
+  pub d-high : g .d + 1 ≤ g .n
+  pub l-low : 1 ≤ g .l
+  pub l-high : g .l ≤ longest
+
+-- A node of such a group.
+pub record NodeOf (g : Group) (i : ℕ) : Type 0 where
+  pub group : InRange g
+  pub low : 1 ≤ i
+  pub high : i ≤ g .n

@@ -1,0 +1,154 @@
+// The checks that calls share. Each answers `Fine`, or the lowest refusal that applies to what it is handed.
+use crate::Check;
+use crate::Group;
+use crate::Refusal;
+ghost use mathlib.Core.Path.{_≡_};
+ghost use lib.Dec.{eqb};
+ghost use Rattle.group.specs.Answers.{checkNumber, first, unless, refusalNumber};
+ghost use Rattle.group.specs.Ranges.{groupRefusal, nodeRefusal, idRefusal, idsRefusal, numbersInRange, lengthInRange, allInRange, falling, among};
+
+// n is 3 to 16, and 2 <= k <= d <= n-1.
+pub fn numbers_in_range(g: Group) -> bool
+    ensures { λ r. ⌜ r ≡ numbersInRange g ⌝ }
+{
+    if g.n < 3 {
+        return false;
+    }
+    if 16 < g.n {
+        return false;
+    }
+    if g.k < 2 {
+        return false;
+    }
+    if g.d < g.k {
+        return false;
+    }
+    g.d <= g.n - 1
+}
+
+// L is 1 to 4,096.
+pub fn length_in_range(g: Group) -> bool
+    ensures { λ r. ⌜ r ≡ lengthInRange g ⌝ }
+{
+    if g.l < 1 {
+        return false;
+    }
+    g.l <= 4096
+}
+
+// The group's own numbers: refusals 1 and 2.
+pub fn group(g: Group) -> Check
+    ensures { λ r. ⌜ checkNumber r ≡ groupRefusal g ⌝ }
+{
+    if !numbers_in_range(g) {
+        return Check::Refused(Refusal::Numbers);
+    }
+    if !length_in_range(g) {
+        return Check::Refused(Refusal::Length);
+    }
+    Check::Fine
+}
+
+// One id: refusal 3.
+pub fn id(g: Group, id: usize) -> Check
+    ensures { λ r. ⌜ checkNumber r ≡ idRefusal g id ⌝ }
+{
+    if id < 1 {
+        return Check::Refused(Refusal::Ids);
+    }
+    if g.n < id {
+        return Check::Refused(Refusal::Ids);
+    }
+    Check::Fine
+}
+
+// A group and one of its nodes: refusals 1, 2 and 3.
+pub fn node(g: Group, node: usize) -> Check
+    ensures { λ r. ⌜ checkNumber r ≡ nodeRefusal g node ⌝ }
+{
+    match group(g) {
+        Check::Refused(refusal) => Check::Refused(refusal),
+        Check::Fine => id(g, node),
+    }
+}
+
+// Every id is one of 1..n.
+pub fn all_in_range(ids: &[usize], n: usize) -> bool
+    ensures { λ r. ⌜ r ≡ allInRange n (now (ids .entry)) ⌝ }
+{
+    let mut i = 0;
+    while i < ids.len() {
+        if ids[i] < 1 {
+            return false;
+        }
+        if n < ids[i] {
+            return false;
+        }
+        i += 1;
+    }
+    true
+}
+
+// Each id is below the one before it.
+pub fn strictly_falling(ids: &[usize]) -> bool
+    ensures { λ r. ⌜ r ≡ falling (now (ids .entry)) ⌝ }
+{
+    let mut i = 1;
+    while i < ids.len() {
+        if ids[i - 1] <= ids[i] {
+            return false;
+        }
+        i += 1;
+    }
+    true
+}
+
+// `node` is one of the ids.
+pub fn is_among(node: usize, ids: &[usize]) -> bool
+    ensures { λ r. ⌜ r ≡ among node (now (ids .entry)) ⌝ }
+{
+    let mut i = 0;
+    while i < ids.len() {
+        if ids[i] == node {
+            return true;
+        }
+        i += 1;
+    }
+    false
+}
+
+// A list of ids that must be `wanted` many: refusal 3, and then 4.
+pub fn ids(g: Group, wanted: usize, ids: &[usize]) -> Check
+    ensures { λ r. ⌜ checkNumber r ≡ idsRefusal g wanted (now (ids .entry)) ⌝ }
+{
+    if ids.len() != wanted {
+        return Check::Refused(Refusal::Ids);
+    }
+    if !all_in_range(ids, g.n) {
+        return Check::Refused(Refusal::Ids);
+    }
+    if !strictly_falling(ids) {
+        return Check::Refused(Refusal::Order);
+    }
+    Check::Fine
+}
+
+// A lent slice has exactly the wanted length; else the refusal that the caller names, 5 or 6.
+pub fn exact(length: usize, wanted: usize, refusal: Refusal) -> Check
+    ensures { λ r. ⌜ checkNumber r ≡ unless (eqb length wanted) (refusalNumber refusal) ⌝ }
+{
+    if length == wanted {
+        return Check::Fine;
+    }
+    Check::Refused(refusal)
+}
+
+// A lent input of exactly one length and a lent output of exactly another: refusals 5 and 6.
+pub fn lengths(input: usize, wanted_in: usize, output: usize, wanted_out: usize) -> Check
+    ensures { λ r. ⌜ checkNumber r ≡ first (unless (eqb input «wanted_in») 5) (unless (eqb output «wanted_out») 6) ⌝ }
+{
+    if input != wanted_in {
+        return Check::Refused(Refusal::Input);
+    }
+    exact(output, wanted_out, Refusal::Output)
+}

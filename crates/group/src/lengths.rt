@@ -1,0 +1,71 @@
+// Every length of a group whose numbers are in range.
+use crate::Group;
+ghost use mathlib.Core.Path.{_≡_};
+ghost use Prim.Native.Nat.{_+_, _≤_};
+ghost use Rattle.shifts.specs.Rule.{t};
+ghost use Rattle.group.specs.Lengths.{sequences, fileLetters, packetLength, packetStart, nodeLetters, repairLetters, shareBytes};
+ghost use Rattle.group.specs.Ranges.{InRange, NodeOf};
+
+// B, the sequences of a file.
+pub fn sequences_of(g: Group) -> usize
+    requires { ⌜ InRange g ⌝ }
+    ensures { λ r. ⌜ r ≡ sequences g ⌝ }
+{
+    g.k * g.d - g.k * (g.k - 1) / 2
+}
+
+// The letters of a file, B*L.
+pub fn file(g: Group) -> usize
+    requires { ⌜ InRange g ⌝ }
+    ensures { λ r. ⌜ r ≡ fileLetters g ⌝ }
+{
+    sequences_of(g) * g.l
+}
+
+// A sequence's letters and the most that a node moves one by: L + t(i,d).
+fn widened(g: Group, node: usize) -> usize
+    requires { ⌜ NodeOf g node ⌝ }
+    ensures { λ r. ⌜ (r ≡ g .l + t node (g .d)) × (r ≤ 4321) ⌝ }
+{
+    g.l + shifts::shift(node, g.d)
+}
+
+// The letters of a packet of a node.
+pub fn packet(g: Group, node: usize, column: usize) -> usize
+    requires { ⌜ (NodeOf g node) × (1 ≤ column) × (column ≤ g .d) ⌝ }
+    ensures { λ r. ⌜ r ≡ packetLength g node column ⌝ }
+{
+    widened(g, node)
+}
+
+// The index at which a packet of a node starts.
+pub fn packet_start(g: Group, node: usize, column: usize) -> usize
+    requires { ⌜ (NodeOf g node) × (1 ≤ column) × (column ≤ g .d) ⌝ }
+    ensures { λ r. ⌜ r ≡ packetStart g node column ⌝ }
+{
+    (column - 1) * widened(g, node)
+}
+
+// T, the letters that a node holds.
+pub fn node(g: Group, node: usize) -> usize
+    requires { ⌜ NodeOf g node ⌝ }
+    ensures { λ r. ⌜ r ≡ nodeLetters g node ⌝ }
+{
+    g.d * widened(g, node)
+}
+
+// L', the letters of the piece that a helper sends for the lost node.
+pub fn repair(g: Group, lost: usize) -> usize
+    requires { ⌜ NodeOf g lost ⌝ }
+    ensures { λ r. ⌜ r ≡ repairLetters g lost ⌝ }
+{
+    widened(g, lost)
+}
+
+// The bytes of a node's share.
+pub fn share(g: Group, node: usize) -> usize
+    requires { ⌜ NodeOf g node ⌝ }
+    ensures { λ r. ⌜ r ≡ shareBytes g node ⌝ }
+{
+    11 + (self::node(g, node) + 63) / 64 * 65 + 5
+}

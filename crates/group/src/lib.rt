@@ -1,0 +1,89 @@
+// A group of nodes and its numbers, the refusals that every call shares, and every length.
+pub mod checks;
+pub mod lengths;
+
+ghost use Prim.Native.Nat.{ℕ};
+ghost use Rattle.group.specs.Answers.{Answers};
+ghost use Rattle.group.specs.Lengths.{fileLetters, nodeLetters, repairLetters, shareBytes};
+ghost use Rattle.group.specs.Ranges.{groupRefusal, nodeRefusal};
+
+// A group's numbers, any numbers: n nodes, any k of which give a batch back and any d of which rebuild a lost one,
+// and l letters in a sequence. Which numbers are allowed is what `checks` tells.
+pub struct Group {
+    pub n: usize,
+    pub k: usize,
+    pub d: usize,
+    pub l: usize,
+}
+
+// Why a call is turned down. `refusalNumber` in specs/ gives document 01's number for each.
+pub enum Refusal {
+    // 1: n, k or d is outside its range.
+    Numbers,
+    // 2: L is outside its range.
+    Length,
+    // 3: an id is outside 1..n, the number of ids is wrong, or a rank or a column is.
+    Ids,
+    // 4: the ids don't fall strictly, or the lost node is among its helpers.
+    Order,
+    // 5: a lent input, or the buffer worked on in place, has not the exact length.
+    Input,
+    // 6: a lent output has not the exact length.
+    Output,
+    // 7: the bytes are the beginning of some share, but not all of it.
+    Unfinished,
+    // 8: the bytes are neither a share nor the beginning of one.
+    Malformed,
+}
+
+// What a check finds.
+pub enum Check {
+    Fine,
+    Refused(Refusal),
+}
+
+// What a call answers: a number (a count, a length, a place; 0 where there is nothing to tell), or why it is refused.
+pub enum Answer {
+    Value(usize),
+    Refused(Refusal),
+}
+
+// The letters of a file, B*L. Refusals: 1, 2.
+pub fn file_letters(g: Group) -> Answer
+    ensures { λ r. ⌜ Answers r (groupRefusal g) (fileLetters g) ⌝ }
+{
+    match checks::group(g) {
+        Check::Refused(refusal) => Answer::Refused(refusal),
+        Check::Fine => Answer::Value(lengths::file(g)),
+    }
+}
+
+// The letters that a node holds, T: its d packets one after another. Refusals: 1, 2, 3.
+pub fn packet_letters(g: Group, node: usize) -> Answer
+    ensures { λ r. ⌜ Answers r (nodeRefusal g node) (nodeLetters g node) ⌝ }
+{
+    match checks::node(g, node) {
+        Check::Refused(refusal) => Answer::Refused(refusal),
+        Check::Fine => Answer::Value(lengths::node(g, node)),
+    }
+}
+
+// The letters of the piece that a helper sends for the lost node, L'. Refusals: 1, 2, 3.
+pub fn repair_letters(g: Group, lost: usize) -> Answer
+    ensures { λ r. ⌜ Answers r (nodeRefusal g lost) (repairLetters g lost) ⌝ }
+{
+    match checks::node(g, lost) {
+        Check::Refused(refusal) => Answer::Refused(refusal),
+        Check::Fine => Answer::Value(lengths::repair(g, lost)),
+    }
+}
+
+// The bytes of a node's share. Refusals: 1, 2, 3.
+pub fn share_bytes(g: Group, node: usize) -> Answer
+    ensures { λ r. ⌜ Answers r (nodeRefusal g node) (shareBytes g node) ⌝ }
+{
+    match checks::node(g, node) {
+        Check::Refused(refusal) => Answer::Refused(refusal),
+        Check::Fine => Answer::Value(lengths::share(g, node)),
+    }
+}
