@@ -1,0 +1,4 @@
+-- Laws of the definitions, and the theorems of demands 2 and 3.
+pub mod Lists
+pub mod Columns
+pub mod Product

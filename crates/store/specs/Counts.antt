@@ -1,0 +1,24 @@
+-- Document 01's "Counts".
+use mathlib.Core.List.{List}
+use Prim.Native.Nat.{ℕ, _+_, _-_, min}
+use Rattle.letters.specs.Algebra.{counts, sum}
+use Rattle.shifts.specs.Rule.{t}
+use Rattle.solving.specs.Order.{ruled}
+use Rattle.solving.specs.Count.{cost}
+use Rattle.group.specs.declared.Group.{Group}
+use Rattle.group.specs.Lengths.{repairLetters}
+use Rattle.store.specs.Lists.{ranked}
+
+-- solving every column, and taking out of the earlier ones what each later column put into them
+unfoldable pub recoveryCost : Group → List ℕ → ℕ
+unfolding sum cost ranked t
+recoveryCost g ids =
+    sum counts (g .d) (λ u. cost (min u (g .k)) (g .l) (ruled t (ranked ids)))
+    + sum counts (g .d - 1)
+    (λ u.
+    sum counts (min u (g .k))
+    (λ v. sum counts v (λ w. g .l - (t (ranked ids w) (u + 1) - t (ranked ids w) w))))
+
+unfoldable pub repairCost : Group → ℕ → List ℕ → ℕ
+unfolding cost repairLetters ranked t
+repairCost g lost helpers = cost (g .d) (repairLetters g lost) (ruled t (ranked helpers))
