@@ -19,6 +19,11 @@ unfoldable pub entryNumber : ℕ → ℕ → ℕ → ℕ
 unfolding before
 entryNumber k v u = before k u + v
 
+-- letters given by entry and place, laid out as a file: column by column, and in column u the free entries from v = 1 to min(u,k)
+unfoldable pub asFile : {A : Type 0} → Group → (ℕ → ℕ → ℕ → A) → List A
+unfolding run joined
+asFile g f = joined (g .d) (λ u. joined (min u (g .k)) (λ v. run (g .l) (f v u)))
+
 module _ {A : Type 0} (𝓐 : Adding A) where
   -- letter p of the sum of the sequences x, each moved right by its shift
   unfoldable pub moved : ℕ → (ℕ → ℕ) → (ℕ → ℕ → A) → ℕ → A
