@@ -1,8 +1,8 @@
 -- Letters laid out as a file: how many there are, where each stands, and that a file is nothing but its letters at its entries.
-use mathlib.Core.Path.{_≡_, refl, sym, ap, ap₂, _∙_}
+use mathlib.Core.Path.{_≡_, sym, ap, _∙_}
 use mathlib.Core.List.{List}
 use Prim.Native.Nat.{ℕ, _+_, _-_, _*_, _≤_, _<_, min}
-use native.Mathlib.Nat.{add-mul, zero-mul, one-mul, add-assoc}
+use native.Mathlib.Nat.{add-mul, zero-mul, add-assoc}
 use native.Mathlib.Omega.{arith}
 use lib.ListN.{length, getD, take, drop, length-drop}
 use lib.Seq.{getD-take, getD-drop, length-take-le}
@@ -14,34 +14,17 @@ use Rattle.group.specs.Ranges.{InRange}
 use Rattle.group.specs.Lengths.{sequences, fileLetters}
 use Rattle.store.specs.Lists.{run, joined}
 use Rattle.store.specs.Matrix.{before, entryNumber, asFile}
-use Rattle.store.proofs.Lists.{length-run, getD-run, Starts, length-joined, getD-joined, ends-within, is-joined}
+use Rattle.store.proofs.Lists.{Starts, length-joined, getD-joined, ends-within, is-joined}
+use Rattle.store.proofs.Sequences.{place-index, length-runs, getD-runs, is-runs}
 use Rattle.store.proofs.Columns.{before-first, before-next, before-all}
-
--- sequences of one length start at multiples of it
-times-next : (m l : ℕ) → 1 ≤ m → (m + 1 - 1) * l ≡ (m - 1) * l + l
-times-next m l h = ap (λ q. q * l) more ∙ add-mul (m - 1) 1 l ∙ ap (λ q. (m - 1) * l + q) (one-mul l)
-  where
-    more : m + 1 - 1 ≡ m - 1 + 1
-    more = omega arith
 
 module _ {A : Type 0} (none : A) (g : Group) (r : InRange g) (f : ℕ → ℕ → ℕ → A) where
   -- one column: its entries one after another
   abbrev column : ℕ → List A
   column u = joined (min u (g .k)) (λ v. run (g .l) (f v u))
 
-  entries-start : (u : ℕ) → Starts (min u (g .k)) (λ v. run (g .l) (f v u)) (λ v. (v - 1) * g .l)
-  entries-start u =
-      record {
-        first = zero-mul (g .l);
-        next = λ v lo hi. times-next v (g .l) lo ∙ ap (λ m. (v - 1) * g .l + m) (sym (length-run (g .l) (f v u)));
-      }
-
   length-column : (u : ℕ) → length (column u) ≡ min u (g .k) * g .l
-  length-column u =
-      length-joined (min u (g .k)) (λ v. run (g .l) (f v u)) (λ v. (v - 1) * g .l) (entries-start u) ∙ ap (λ m. m * g .l) (back (min u (g .k)))
-    where
-      back : (m : ℕ) → m + 1 - 1 ≡ m
-      back m = omega arith
+  length-column u = length-runs none (min u (g .k)) (g .l) (λ v. f v u)
 
   columns-start : Starts (g .d) column (λ u. before (g .k) u * g .l)
   columns-start =
@@ -69,11 +52,6 @@ module _ {A : Type 0} (none : A) (g : Group) (r : InRange g) (f : ℕ → ℕ �
     where
       later : before (g .k) u + v - 1 ≡ before (g .k) u + (v - 1)
       later = omega arith
-
-  in-column : (u v q : ℕ) → 1 ≤ v → v ≤ min u (g .k) → q < g .l → getD (column u) ((v - 1) * g .l + q) none ≡ f v u (q + 1)
-  in-column u v q lo hi h =
-      getD-joined (min u (g .k)) (λ v. run (g .l) (f v u)) (λ v. (v - 1) * g .l) none (entries-start u) v q lo hi (rw length-run h)
-      ∙ getD-run (g .l) (f v u) none q h
 
   pub asFile-at :
       (u v p : ℕ) → 1 ≤ u → u ≤ g .d → 1 ≤ v → v ≤ min u (g .k) → 1 ≤ p → p ≤ g .l
@@ -106,30 +84,16 @@ module _ {A : Type 0} (none : A) (g : Group) (r : InRange g) (f : ℕ → ℕ �
 
     letters-of : (u : ℕ) → 1 ≤ u → u ≤ g .d → take (min u (g .k) * g .l) (drop (before (g .k) u * g .l) xs) ≡ column u
     letters-of u lu hu =
-        is-joined none (min u (g .k)) (λ v. run (g .l) (f v u)) (λ v. (v - 1) * g .l) (entries-start u)
-        (take (min u (g .k) * g .l) (drop (before (g .k) u * g .l) xs))
-        (length-take-le (min u (g .k) * g .l) (drop (before (g .k) u * g .l) xs) (rw length-drop (omega (arith, fits u lu hu)))
-        ∙ ap (λ m. m * g .l) (back (min u (g .k))))
-        (λ v q lv hv h.
-        let short : q < g .l = rw length-run at h in
-        getD-take (min u (g .k) * g .l) (drop (before (g .k) u * g .l) xs) ((v - 1) * g .l + q) none
-        (at-place v q lv hv short)
-        ∙ getD-drop (before (g .k) u * g .l) xs ((v - 1) * g .l + q) none
-        ∙ ap (λ p. getD xs (before (g .k) u * g .l + ((v - 1) * g .l + p)) none) (place q)
-        ∙ ap (λ i. getD xs i none) (sym (index u v (q + 1) lv))
-        ∙ sym (sequence-inside none xs (g .l) (entryNumber (g .k) v u) (q + 1) (omega arith) (omega arith))
-        ∙ has u v (q + 1) lu hu lv hv (omega arith) (omega arith)
-        ∙ sym (getD-run (g .l) (f v u) none q short))
-      where
-        back : (m : ℕ) → m ≡ m + 1 - 1
-        back m = omega arith
-
-        place : (q : ℕ) → q ≡ q + 1 - 1
-        place q = omega arith
-
-        at-place : (v q : ℕ) → 1 ≤ v → v ≤ min u (g .k) → q < g .l → (v - 1) * g .l + q < min u (g .k) * g .l
-        at-place v q lv hv h =
-            omega (arith, index-below (min u (g .k)) (g .l) v (q + 1) lv hv (omega arith) (omega arith))
+        is-runs none (min u (g .k)) (g .l) (λ v. f v u) (take (min u (g .k) * g .l) (drop (before (g .k) u * g .l) xs))
+        (length-take-le (min u (g .k) * g .l) (drop (before (g .k) u * g .l) xs) (rw length-drop (omega (arith, fits u lu hu))))
+        (λ v p lv hv lp hp.
+        sequence-inside none (take (min u (g .k) * g .l) (drop (before (g .k) u * g .l) xs)) (g .l) v p lp hp
+        ∙ getD-take (min u (g .k) * g .l) (drop (before (g .k) u * g .l) xs) ((v - 1) * g .l + (p - 1)) none
+        (index-below (min u (g .k)) (g .l) v p lv hv lp hp)
+        ∙ getD-drop (before (g .k) u * g .l) xs ((v - 1) * g .l + (p - 1)) none
+        ∙ ap (λ i. getD xs i none) (sym (index u v p lv))
+        ∙ sym (sequence-inside none xs (g .l) (entryNumber (g .k) v u) p lp hp)
+        ∙ has u v p lu hu lv hv lp hp)
 
     pub is-asFile : xs ≡ asFile g f
     unfolding asFile fileLetters

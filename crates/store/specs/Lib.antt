@@ -4,3 +4,4 @@ pub mod Matrix
 pub mod Pieces
 pub mod Repair
 pub mod Counts
+pub mod Chain
