@@ -61,11 +61,8 @@ module _ {A : Type 0} (none : A) (g : Group) (r : InRange g) (f : ℕ → ℕ �
       sequence-inside none (asFile g f) (g .l) (entryNumber (g .k) v u) p lp hp
       ∙ ap (λ i. getD (asFile g f) i none) (index u v p lv)
       ∙ getD-joined (g .d) column (λ u. before (g .k) u * g .l) none columns-start u ((v - 1) * g .l + (p - 1)) lu hu (rw length-column (index-below (min u (g .k)) (g .l) v p lv hv lp hp))
-      ∙ in-column u v (p - 1) lv hv (omega arith)
-      ∙ ap (f v u) (place p lp)
-    where
-      place : (p : ℕ) → 1 ≤ p → p - 1 + 1 ≡ p
-      place p lp = omega arith
+      ∙ getD-runs none (min u (g .k)) (g .l) (λ v. f v u) v (p - 1) lv hv (omega arith)
+      ∙ ap (f v u) (place-index p lp)
 
   -- a list of B*L letters is what its letters at the entries are laid out to
   module _ (xs : List A) (long : length xs ≡ fileLetters g)
