@@ -21,6 +21,11 @@ unfolding worth
 worth-at-most [] = omega arith
 worth-at-most (x ∷ xs) = omega (arith, worthOf-at-most x, worth-at-most xs)
 
+-- today each letter counts as one: what a counter that goes up by one at each addition answers by
+pub worthOf-is-one : (x : ℕ) → worthOf x ≡ 1
+unfolding worthOf
+worthOf-is-one x = refl
+
 -- today each letter counts as one: what the code of a run's addition answers by, and nothing else should
 pub worth-is-length : (xs : List ℕ) → worth xs ≡ length xs
 unfolding worth worthOf

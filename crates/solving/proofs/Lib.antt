@@ -4,7 +4,10 @@ pub mod Order
 pub mod OneSolution
 pub mod Within
 pub mod Cost
+pub mod Signed
 pub mod Delays
 pub mod Equation
+pub mod Steps
+pub mod Advance
 pub mod Settles
 pub mod SomeSolution

@@ -20,6 +20,14 @@ unfolding delay
 delay-more t zero h = absurd (omega arith)
 delay-more t (suc u) h = rw add-one refl
 
+-- what holds of a, and of each number after one of which it holds, holds from a on
+upwards : (P : ℕ → Type 0) (a : ℕ) → P a → ((b : ℕ) → a ≤ b → P b → P (b + 1)) → (b : ℕ) → a ≤ b → P b
+upwards P a start next = le-ind P start (λ b h p. subst P (add-one b) (next b h p))
+
+-- a later rank waits no less
+pub delay-rises : (t : ℕ → ℕ → ℕ) (a b : ℕ) → 1 ≤ a → a ≤ b → delay t a ≤ delay t b
+delay-rises t a b la = upwards (λ (b : ℕ). delay t a ≤ delay t b) a (omega arith) (λ b h ih. omega (arith, delay-more t b (omega arith))) b
+
 -- the delay reads the shifts of the ranks up to its own alone
 pub delay-same :
     (t t′ : ℕ → ℕ → ℕ) (s u : ℕ) → u ≤ s → ((b a : ℕ) → 1 ≤ b → b ≤ s → 1 ≤ a → a ≤ s → t b a ≡ t′ b a)
@@ -63,10 +71,6 @@ ordered-fewer t s m h o =
       from-lower = λ a b la l hb. o .from-lower a b la l (omega arith);
       from-higher = λ a b lb l ha. o .from-higher a b lb l (omega arith);
     }
-
--- what holds of a, and of each number after one of which it holds, holds from a on
-upwards : (P : ℕ → Type 0) (a : ℕ) → P a → ((b : ℕ) → a ≤ b → P b → P (b + 1)) → (b : ℕ) → a ≤ b → P b
-upwards P a start next = le-ind P start (λ b h p. subst P (add-one b) (next b h p))
 
 module _ (rule : ShiftRule) (refined : Refined rule) (s : ℕ) (id : ℕ → ℕ) (falling : Falling s id) where
   -- node i moves the column after b no further than the node of that column's rank, where it is no higher than that

@@ -1,0 +1,36 @@
+// Where an equation reads a sequence.
+ghost use mathlib.Core.Path.{_≡_};
+ghost use Prim.Native.Nat.{_+_, _-_, _^_, _≤_};
+ghost use Rattle.solving.specs.Count.{other, within};
+
+// The place that letter `q` of a piece reads in a sequence that lies at `other - own` in it, or 0 where that place is outside 1..n.
+// The only signed number of the store: the offset, below zero to the left.
+pub fn place(q: usize, own: usize, moved: usize, n: usize) -> usize
+    requires { ⌜ (q ≤ 2 ^ 32) × (own ≤ 65535) × (moved ≤ 65535) × (n ≤ 2 ^ 32) ⌝ }
+    ensures { λ r. ⌜ r ≡ within n ((q + own) - moved) ((q + own) - moved) ⌝ }
+{
+    let offset = own as i64 - moved as i64;
+    let at = q as i64 + offset;
+    if at < 1 {
+        return 0; // pushed out to the left
+    }
+    if at > (n as i64) {
+        return 0; // pushed out to the right
+    }
+    at as usize
+}
+
+// The place that equation (u,q) takes a letter from in sequence `a`, or 0 where it takes none: of its own sequence, or outside 1..n.
+pub fn taken_at(a: usize, u: usize, q: usize, own: usize, moved: usize, n: usize) -> usize
+    requires { ⌜ (q ≤ 2 ^ 32) × (own ≤ 65535) × (moved ≤ 65535) × (n ≤ 2 ^ 32) ⌝ }
+    ensures { λ r. ⌜ r ≡ other a u (within n ((q + own) - moved) ((q + own) - moved)) ⌝ }
+{
+    if a == u { 0 } else { place(q, own, moved, n) }
+}
+
+// How much later a rank comes out than the one before it.
+pub fn gap(own: usize, left: usize) -> usize
+    ensures { λ r. ⌜ r ≡ own - left ⌝ }
+{
+    if left <= own { own - left } else { 0 }
+}
