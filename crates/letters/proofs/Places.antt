@@ -4,10 +4,11 @@ use mathlib.Core.Bool.{Bool, true, false, cond}
 use mathlib.Core.List.{List, [], _++_}
 use mathlib.Core.Logic.{_⊎_, inl, inr, ⊎-elim}
 use Prim.Native.Nat.{ℕ, zero, suc, _+_, _-_, _≤_, _<_}
+use native.Mathlib.Nat.{zero-add}
 use native.Mathlib.Omega.{arith}
 use lib.Dec.{ltb, leb}
-use lib.ListN.{length, getD, set, take, drop, length-append, List·getD-eq-default, List·getD-append}
-use lib.Seq.{getD-set-same, getD-set-other, getD-drop, getD-take}
+use lib.ListN.{length, getD, set, take, drop, length-append, length-drop, List·getD-eq-default, List·getD-append}
+use lib.Seq.{getD-set-same, getD-set-other, getD-drop, getD-take, length-take-le}
 use borrow.Author.Tests.{lt-ltb, le-ltb, le-leb, lt-leb, ltb-true, leb-true}
 use Rattle.letters.specs.Places.{both, inside, letter}
 use Rattle.letters.proofs.Cases.{le-or-lt}
@@ -95,3 +96,15 @@ pub letter-of-nothing : {A : Type 0} (none : A) (p : ℕ) → letter none [] 0 0
 letter-of-nothing none p =
     ⊎-elim (λ w. absurd (omega arith)) (λ out. ⊎-elim (λ z. letter-zero none [] 0 0 p z) (λ a. letter-above none [] 0 0 p a) out)
     (place-cases 0 p)
+
+-- a part of a list has the letters of the list from its start on
+pub letter-of-part :
+    {A : Type 0} (none : A) (xs : List A) (start n p : ℕ) → start + n ≤ length xs
+    → letter none (take n (drop start xs)) 0 (length (take n (drop start xs))) p ≡ letter none xs start n p
+letter-of-part none xs start n p fits =
+    ap (λ m. letter none (take n (drop start xs)) 0 m p) long
+    ∙ letter-same none (take n (drop start xs)) xs 0 start n p
+    (λ q h. getD-take n (drop start xs) (0 + q) none (omega arith) ∙ getD-drop start xs (0 + q) none ∙ ap (λ i. getD xs (start + i) none) (zero-add q))
+  where
+    long : length (take n (drop start xs)) ≡ n
+    long = length-take-le n (drop start xs) (rw length-drop (omega arith))

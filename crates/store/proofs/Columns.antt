@@ -3,7 +3,7 @@ use mathlib.Core.Path.{_≡_, refl, sym, ap, ap₂, _∙_}
 use mathlib.Core.Bool.{cond}
 use mathlib.Core.Logic.{⊎-elim}
 use Prim.Native.Nat.{ℕ, zero, suc, _+_, _-_, _*_, _/_, _≤_, _<_, min}
-use native.Mathlib.Nat.{mul-comm, add-mul, mul-add, zero-mul, one-mul, mul-one, eq-or-lt-of-le, le-of-suc-le-suc}
+use native.Mathlib.Nat.{mul-comm, add-mul, mul-add, zero-mul, one-mul, mul-one, add-zero, mul-le-mul-right, le-of-eq, eq-or-lt-of-le, le-of-suc-le-suc}
 use native.Mathlib.Numerals.{add-one}
 use native.Mathlib.Omega.{arith}
 use lib.Dec.{leb}
@@ -11,8 +11,8 @@ use borrow.Author.Tests.{le-leb, lt-leb}
 use Rattle.letters.proofs.Cases.{le-or-lt}
 use Rattle.group.specs.declared.Group.{Group}
 use Rattle.group.specs.Ranges.{InRange}
-use Rattle.group.specs.Lengths.{sequences}
-use Rattle.store.specs.Matrix.{before}
+use Rattle.group.specs.Lengths.{sequences, fileLetters}
+use Rattle.store.specs.Matrix.{before, entryNumber}
 
 -- (w+2)(w+1) = (w+1)w + 2(w+1)
 next-product : (w : ℕ) → (w + 2) * (w + 1) ≡ (w + 1) * w + 2 * (w + 1)
@@ -46,11 +46,11 @@ risen k = mul-comm k (k + 1) ∙ ap (λ x. (k + 1) * x) same
     same : k ≡ k + 1 - 1
     same = omega arith
 
-before-low : (k u : ℕ) → u ≤ k → before k u ≡ pairs u / 2
+pub before-low : (k u : ℕ) → u ≤ k → before k u ≡ pairs u / 2
 unfolding before
 before-low k u h = simp (le-leb u k h)
 
-before-high : (k u : ℕ) → k < u → before k u ≡ k * (k + 1) / 2 + (u - k - 1) * k
+pub before-high : (k u : ℕ) → k < u → before k u ≡ k * (k + 1) / 2 + (u - k - 1) * k
 unfolding before
 before-high k u h = simp (lt-leb u k h)
 
@@ -116,3 +116,61 @@ before-all g r =
       where
         back : g .k ≡ g .k - 1 + 1
         back = omega arith
+
+-- no column stands before an earlier one
+pub before-rises : (k u m : ℕ) → 1 ≤ k → 1 ≤ u → before k u ≤ before k (u + m)
+before-rises k u zero lk lu = le-of-eq (ap (before k) (sym (add-zero u)))
+before-rises k u (suc m) lk lu =
+    omega (arith, before-rises k u m lk lu, before-next k (u + m) lk (omega arith), ap (before k) (more u m))
+  where
+    more : (u m : ℕ) → u + m + 1 ≡ u + suc m
+    more u m = omega arith
+
+-- one column's sequences end before the next one's start
+pub before-apart : (k u w : ℕ) → 1 ≤ k → 1 ≤ u → u < w → before k u + min u k ≤ before k w
+before-apart k u w lk lu h =
+    omega (arith, before-next k u lk lu, before-rises k (u + 1) (w - (u + 1)) lk (omega arith), ap (before k) (reach u w h))
+  where
+    reach : (u w : ℕ) → u < w → u + 1 + (w - (u + 1)) ≡ w
+    reach u w h = omega arith
+
+-- an entry's number is one of 1..B
+pub entry-at-most :
+    (g : Group) → InRange g → (v u : ℕ) → 1 ≤ u → u ≤ g .d → v ≤ min u (g .k) → entryNumber (g .k) v u ≤ sequences g
+unfolding entryNumber
+entry-at-most g r v u lu hu hv = omega (arith, before-apart (g .k) u (g .d + 1) (omega arith) lu (omega arith), before-all g r)
+
+-- one number, one entry
+pub entry-one :
+    (k v u v′ u′ : ℕ) → 1 ≤ k → 1 ≤ v → v ≤ min u k → 1 ≤ v′ → v′ ≤ min u′ k → entryNumber k v u ≡ entryNumber k v′ u′ → (u ≡ u′) × (v ≡ v′)
+unfolding entryNumber
+entry-one k v u v′ u′ lk lv hv lv′ hv′ e =
+    ⊎-elim
+    (λ h.
+    ⊎-elim (λ same. (same, omega (arith, ap (before k) same)))
+    (λ below. absurd (omega (arith, before-apart k u u′ lk (omega arith) below))) (eq-or-lt-of-le h))
+    (λ above. absurd (omega (arith, before-apart k u′ u lk (omega arith) above))) (le-or-lt u u′)
+
+-- numbers count from 1
+pub from-one : (k v u : ℕ) → 1 ≤ v → 1 ≤ entryNumber k v u
+unfolding entryNumber
+from-one k v u lv = omega arith
+
+-- an entry's letters lie in the file
+pub entry-fits :
+    (g : Group) → InRange g → (v u : ℕ) → 1 ≤ u → u ≤ g .d → 1 ≤ v → v ≤ min u (g .k)
+    → (entryNumber (g .k) v u - 1) * g .l + g .l ≤ fileLetters g
+unfolding fileLetters
+entry-fits g r v u lu hu lv hv =
+    omega (
+      arith,
+      mul-le-mul-right (g .l) (last (entryNumber (g .k) v u) (entry-at-most g r v u lu hu hv) first),
+      add-mul (entryNumber (g .k) v u - 1) 1 (g .l),
+      one-mul (g .l),
+    )
+  where
+    first : 1 ≤ entryNumber (g .k) v u
+    first = from-one (g .k) v u lv
+
+    last : (e : ℕ) → e ≤ sequences g → 1 ≤ e → e - 1 + 1 ≤ sequences g
+    last e h l = omega arith

@@ -8,3 +8,7 @@ pub mod Reading
 pub mod SomeFile
 pub mod Linear
 pub mod Rebuilt
+pub mod SeenRuns
+pub mod Summing
+pub mod PutBack
+pub mod Called

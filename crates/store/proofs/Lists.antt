@@ -136,3 +136,8 @@ module _ {A : Type 0} where
   unfolding joined
   joined-same zero F F′ h = refl
   joined-same (suc n) F F′ h = ap₂ _++_ (joined-same n F F′ (λ j lo hi. h j lo (omega arith))) (h (suc n) (omega arith) (omega arith))
+
+  -- one list more
+  pub joined-more : (n : ℕ) (F : ℕ → List A) → joined (n + 1) F ≡ joined n F ++ F (n + 1)
+  unfolding joined
+  joined-more n F = rw add-one

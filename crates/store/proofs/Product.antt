@@ -153,3 +153,10 @@ module _ {A : Type 0} (𝓐 : Adding A) (g : Group) (file : List A) where
       ∙ sym (packet-above i j p li h))
       out)
       (place-cases (packetLength g i j) p)
+
+-- an entry's letters as they stand in the file
+pub entry-letter :
+    {A : Type 0} (𝓐 : Adding A) (g : Group) (file : List A) (v u p : ℕ) → min v u ≤ g .k
+    → letter (𝓐 .none) file ((entryNumber (g .k) (min v u) (max v u) - 1) * g .l) (g .l) p ≡ matrix 𝓐 g file v u p
+unfolding matrix sequence
+entry-letter 𝓐 g file v u p h = simp (le-leb (min v u) (g .k) h)

@@ -5,3 +5,5 @@ pub mod Pieces
 pub mod Repair
 pub mod Counts
 pub mod Chain
+pub mod Steps
+pub mod Calls

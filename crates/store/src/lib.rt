@@ -1,1 +1,6 @@
-// The store.
+// The store: a node's packets, the pieces that it sends, recovery from k nodes and repair from d.
+pub mod encoding;
+mod entries;
+pub mod helping;
+pub mod pieces;
+mod windows;

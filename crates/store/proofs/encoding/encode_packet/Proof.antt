@@ -1,0 +1,73 @@
+-- `encoding::encode_packet` meets its contract: after each turn one entry more is in the sum.
+use native.Mathlib.Omega.{arith}
+use mathlib.Core.Path.{_≡_, refl, sym, ap, subst, _∙_}
+use Prim.Native.Nat.{_≤_, _+_, _-_}
+use native.Mathlib.Nat.{add-zero}
+use lib.ListN.{length}
+use Rattle.letters.specs.Algebra.{xors}
+use Rattle.shifts.specs.Rule.{t}
+use Rattle.group.specs.Lengths.{packetLength}
+use Rattle.store.specs.Matrix.{moved, matrix, packetLetter, packet}
+use Rattle.store.specs.Steps.{Summed}
+use Rattle.store.proofs.Summing.{summed-none, summed-more, summed-run}
+use borrow.Author.Needs.{needs}
+use Rattle.store.proofs.encoding.encode_packet.Statement.{statement}
+use Rattle.store.proofs.encoding.encode_packet.Tie as tie
+
+abbrev Inv-loop : tie.InvT-loop
+Inv-loop g node column file letters₀ row₀ letters row = (row ≤ g .d) × (length letters ≡ length letters₀) × Summed row 0 (t node) (λ u. matrix xors g file u column) letters
+
+abbrev μ-loop : tie.MeasureT-loop
+μ-loop g node column file letters₀ row₀ letters row = g .d - row
+
+clear-requires : tie.Need-clear-requires Inv-loop μ-loop
+clear-requires c κs = search needs
+
+loop-holds : tie.Need-loop-holds Inv-loop μ-loop
+loop-holds c = (omega arith, refl, summed-none 0 _ _ _ _ (c .before .before .clear .ensures))
+
+add-row : tie.Need-add-row Inv-loop μ-loop
+add-row c = search needs
+
+add-entry-requires : tie.Need-add-entry-requires Inv-loop μ-loop
+add-entry-requires c κs = search needs
+
+loop-less : tie.Need-loop-less Inv-loop μ-loop
+loop-less c = search needs
+
+loop-again : tie.Need-loop-again Inv-loop μ-loop
+loop-again c = let s = c .before .before .before .before .before .before in (
+  omega arith,
+  c .before .before .add-entry .ensures .same-length ∙ s .loop .inv .1,
+  summed-more (s .loop .row) 0 _ _ _ _ (s .loop .inv .2) (c .before .before .add-entry .ensures),
+)
+
+same-length : tie.Need-same-length Inv-loop μ-loop
+same-length c = let s = c .before .before in
+    s .loop .inv .1 ∙ c .before .before .before .before .before .clear .ensures .same-length
+
+returns : tie.Need-returns Inv-loop μ-loop
+unfolding packet packetLetter
+returns c =
+    let s = c .before .before in
+    let a = c .before .before .before .before .before .before .before .before .before .args in
+    let done : s .loop .row ≡ a .g .d = omega arith in
+    summed-run (packetLength (a .g) (a .node) (a .column)) (a .g .d) 0 (t (a .node)) (λ u. matrix xors (a .g) (a .file .now) u (a .column))
+    (packetLetter xors (a .g) (a .file .now) (a .node) (a .column)) (s .loop .letters) (omega (arith, s .loop .inv .1, c .before .before .before .before .before .clear .ensures .same-length))
+    (subst (λ m. Summed m 0 (t (a .node)) (λ u. matrix xors (a .g) (a .file .now) u (a .column)) (s .loop .letters)) done (s .loop .inv .2))
+    (λ p. ap (moved xors (a .g .d) (t (a .node)) (λ u. matrix xors (a .g) (a .file .now) u (a .column))) (sym (add-zero p)))
+
+pub encode-packet-spec : {M : Type 1} → statement M
+encode-packet-spec =
+    tie.close
+    (tie.spec
+    Inv-loop
+    μ-loop
+    clear-requires
+    loop-holds
+    add-row
+    add-entry-requires
+    loop-less
+    loop-again
+    same-length
+    returns)

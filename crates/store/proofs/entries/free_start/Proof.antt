@@ -1,0 +1,34 @@
+-- `entries::free_start` meets its contract: entry (v,u) is sequence before(u) + v.
+use native.Mathlib.Omega.{arith}
+use mathlib.Core.Path.{ap, sym, _∙_}
+use Prim.Native.Nat.{_+_, _-_, _*_}
+use native.Mathlib.Nat.{mul-le-mul}
+use Rattle.store.specs.Matrix.{entryNumber}
+use Rattle.store.proofs.Columns.{entry-fits}
+use borrow.Author.Needs.{needs}
+use Rattle.store.proofs.entries.free_start.Statement.{statement}
+use Rattle.store.proofs.entries.free_start.Tie as tie
+
+sequences-before-requires : tie.Need-sequences-before-requires
+sequences-before-requires c κs = search needs
+
+add-result : tie.Need-add-result
+add-result c = search needs
+
+sub-result : tie.Need-sub-result
+sub-result c = search needs
+
+mul-result : tie.Need-mul-result
+mul-result c = let a = c .before .before .args in
+    omega
+    (arith, mul-le-mul {n₁ = c .before .sequences-before .result + a .row - 1} {m₁ = a .g .l} {n₂ = 400} {m₂ = 4096} (omega arith) (omega arith))
+
+returns : tie.Need-returns
+unfolding entryNumber
+returns c = let a = c .before .before .args in
+    let same = ap (λ m. (m + a .row - 1) * a .g .l) (c .before .sequences-before .ensures .0) in
+    (same, omega (arith, same, entry-fits (a .g) (c .before .before .pre .group) (a .row) (a .column) (omega arith) (omega arith) (omega arith) (omega arith)))
+
+pub free-start-spec : {M : Type 1} → statement M
+free-start-spec =
+    tie.close (tie.spec sequences-before-requires add-result sub-result mul-result returns)

@@ -1,0 +1,89 @@
+// Encoding: a node's packets from the file.
+use crate::entries;
+use crate::windows;
+use group::Answer;
+use group::Check;
+use group::Group;
+ghost use mathlib.Core.Path.{_≡_};
+ghost use Prim.Native.Nat.{_≤_};
+ghost use lib.ListN.{length};
+ghost use Rattle.letters.specs.Algebra.{xors};
+ghost use Rattle.shifts.specs.Rule.{t};
+ghost use Rattle.group.specs.Ranges.{NodeOf};
+ghost use Rattle.group.specs.Lengths.{fileLetters, nodeLetters, packetLength};
+ghost use Rattle.store.specs.Matrix.{matrix, packet, packets as product};
+ghost use Rattle.store.specs.Calls.{Encoded};
+ghost use Rattle.store.specs.Steps.{Adds};
+
+// Fills `packets` with the d packets of `node`, letter for letter the matrix product of the file.
+// `file` has exactly B*L letters (else 5) and `packets` exactly T (else 6); refusals 1, 2 and 3 come before.
+// A refused call leaves `packets` as it was.
+pub fn encode(g: Group, node: usize, file: &[u8], packets: &mut [u8]) -> Answer
+    ensures { λ r. ⌜ Encoded g node (now (file .entry)) (now (packets .entry)) (now (packets .exit)) r ⌝ }
+{
+    match group::checks::node(g, node) {
+        Check::Refused(refusal) => Answer::Refused(refusal),
+        Check::Fine => encode_exact(g, node, file, packets),
+    }
+}
+
+// The same for a node of a group in range: refusals 5 and 6.
+fn encode_exact(g: Group, node: usize, file: &[u8], packets: &mut [u8]) -> Answer
+    requires { ⌜ NodeOf g node ⌝ }
+    ensures { λ r. ⌜ Encoded g node (now (file .entry)) (now (packets .entry)) (now (packets .exit)) r ⌝ }
+{
+    let wanted_file = group::lengths::file(g);
+    let wanted_packets = group::lengths::node(g, node);
+    match group::checks::lengths(file.len(), wanted_file, packets.len(), wanted_packets) {
+        Check::Refused(refusal) => Answer::Refused(refusal),
+        Check::Fine => {
+            encode_packets(g, node, file, packets);
+            Answer::Value(0)
+        }
+    }
+}
+
+// The d packets, one after another.
+fn encode_packets(g: Group, node: usize, file: &[u8], packets: &mut [u8])
+    requires node { ⌜ NodeOf g node ⌝ }
+    requires lengths { ⌜ (length (now file) ≡ fileLetters g) × (length (now packets) ≡ nodeLetters g node) ⌝ }
+    ensures { λ r. ⌜ now (packets .exit) ≡ product xors g (now (file .entry)) node ⌝ }
+{
+    let mut j = 0;
+    while j < g.d {
+        j += 1;
+        let start = group::lengths::packet_start(g, node, j);
+        let end = start + group::lengths::packet(g, node, j);
+        encode_packet(g, node, j, file, &mut packets[start..end]);
+    }
+}
+
+// Packet `column` of the node: the sum of the column's d entries, each moved right by the node's shift of its row.
+fn encode_packet(g: Group, node: usize, column: usize, file: &[u8], letters: &mut [u8])
+    requires node { ⌜ (NodeOf g node) × (1 ≤ column) × (column ≤ g .d) ⌝ }
+    requires lengths { ⌜ (length (now file) ≡ fileLetters g) × (length (now letters) ≡ packetLength g node column) ⌝ }
+    ensures { λ r. ⌜ now (letters .exit) ≡ packet xors g (now (file .entry)) node column ⌝ }
+{
+    windows::clear(letters);
+    let mut row = 0;
+    while row < g.d {
+        row += 1;
+        add_entry(g, node, column, row, file, letters);
+    }
+}
+
+// Adds entry (row, column) of the matrix, moved right by t(node, row), to a packet. In the zero corner there is nothing to add.
+fn add_entry(g: Group, node: usize, column: usize, row: usize, file: &[u8], letters: &mut [u8])
+    requires node { ⌜ (NodeOf g node) × (1 ≤ column) × (column ≤ g .d) × (1 ≤ row) × (row ≤ g .d) ⌝ }
+    requires lengths { ⌜ length (now file) ≡ fileLetters g ⌝ }
+    ensures { λ r. ⌜ Adds (matrix xors g (now (file .entry)) row column) 0 (t node row) (now (letters .entry)) (now (letters .exit)) ⌝ }
+{
+    if g.k < column {
+        if g.k < row {
+            return;
+        }
+    }
+    let start = entries::entry_start(g, row, column);
+    let end = start + g.l;
+    windows::add_seen(letters, &file[start..end], 0, shifts::shift(node, row));
+}
