@@ -90,3 +90,25 @@ passed-on k r a b e h =
 
 pub went-on : (k : Check) (a b n : ℕ) → k ≡ Check.Fine → checkNumber k ≡ a → n ≡ b → n ≡ first a b
 went-on k a b n e h q = q ∙ sym (first-fine a b (fine k a e h))
+
+-- the second of two checks, where the first refuses nothing
+pub skipped : (a b n : ℕ) → a ≡ 0 → n ≡ b → n ≡ first a b
+skipped a b n z e = e ∙ sym (first-fine a b z)
+
+-- what an answer that is told apart tells
+pub answered-value : (k : Answer) (w q v : ℕ) → k ≡ Answer.Value w → Answers k q v → (q ≡ 0) × (w ≡ v)
+answered-value k w q v e a = go q (sym (a .number) ∙ ap numberOf e) (ap valueOf (sym e) ∙ a .valued)
+  where
+    go : (q : ℕ) → q ≡ 0 → w ≡ ifFine q v 0 → (q ≡ 0) × (w ≡ v)
+    go zero z h = (refl, h)
+    go (suc q) z h = absurd (omega arith)
+
+pub answered-refusal : (k : Answer) (r : Refusal) (q v : ℕ) → k ≡ Answer.Refused r → Answers k q v → refusalNumber r ≡ q
+answered-refusal k r q v e a = ap numberOf (sym e) ∙ a .number
+
+pub if-refused : {A : Type 0} (q : ℕ) (a b : A) → (q ≡ 0 → ⊥) → ifFine q a b ≡ b
+if-refused zero a b n = absurd (n refl)
+if-refused (suc q) a b n = refl
+
+pub if-fine : {A : Type 0} (q : ℕ) (a b : A) → q ≡ 0 → ifFine q a b ≡ a
+if-fine q a b e = rw e

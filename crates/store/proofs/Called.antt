@@ -2,7 +2,7 @@
 use mathlib.Core.Path.{_≡_, refl, sym, ap, ap₂, _∙_}
 use mathlib.Core.Bool.{true, not}
 use mathlib.Core.List.{List}
-use Prim.Native.Nat.{ℕ, zero, suc}
+use Prim.Native.Nat.{ℕ, zero, suc, _+_, _≤_}
 use native.Mathlib.Omega.{arith}
 use lib.Dec.{eqb}
 use borrow.Author.Tests.{eqb-true, eqb-false, not-true, le-leb, ne-eqb}
@@ -11,10 +11,15 @@ use Rattle.group.specs.declared.Group.{Group}
 use Rattle.group.specs.declared.Refusal.{Refusal}
 use Rattle.group.specs.declared.Answer.{Answer}
 use Rattle.group.specs.Answers.{refusalNumber, unless, first}
-use Rattle.group.specs.Ranges.{between, NodeOf, nodeRefusal}
+use Rattle.group.specs.Ranges.{between, InRange, NodeOf, groupRefusal, nodeRefusal}
+use Rattle.shifts.specs.Rule.{t}
+use Rattle.group.specs.Lengths.{packetStart, packetLength, nodeLetters}
+use Rattle.group.proofs.Sizes.{packet-fits, node-at-most}
 use Rattle.group.proofs.Refusals.{numbered, refuses, gives, first-none, first-fine, unless-none, both-true}
-use Rattle.group.proofs.InRange.{between-true, node-of, of-node}
-use Rattle.store.specs.Calls.{Called, helperRefusal, Helper}
+use Rattle.group.proofs.InRange.{between-true, in-range, node-of, of-node}
+use Rattle.store.specs.Calls.{Called, helperRefusal, Helper, placeRefusal, pieceRefusal, entryRefusal}
+use Rattle.store.specs.Steps.{Free}
+use Rattle.store.proofs.Product.{shift-rises}
 
 pub call-refused :
     (r : Refusal) (q v : ℕ) (right before : List ℕ) → refusalNumber r ≡ q → Called q v right before before (Answer.Refused r)
@@ -70,3 +75,37 @@ of-helper g lost helper rank r =
       le-leb rank (g .d) (r .rank-high),
       ne-eqb helper lost (r .apart),
     )
+
+-- an entry that the check lets through is a free one
+pub place-of : (g : Group) (rank column : ℕ) → InRange g → placeRefusal g rank column ≡ 0 → Free g rank column
+unfolding placeRefusal
+place-of g rank column r e =
+    let b = both-true (between 1 (g .k) rank) (between rank (g .d) column) (unless-none (both (between 1 (g .k) rank) (between rank (g .d) column)) 3 (λ q. omega arith) e) in
+    let v = between-true 1 (g .k) rank (b .0) in
+    let u = between-true rank (g .d) column (b .1) in
+    record { group = r; row = v .0; within = u .0; upper = v .1; column = u .1 }
+
+pub of-place : (g : Group) (rank column : ℕ) → Free g rank column → placeRefusal g rank column ≡ 0
+unfolding placeRefusal
+of-place g rank column f =
+    simp (le-leb 1 rank (f .row), le-leb rank (g .k) (f .upper), le-leb rank column (f .within), le-leb column (g .d) (f .column))
+
+-- and so of the whole check of an entry
+pub entry-of : (g : Group) (rank column : ℕ) → entryRefusal g rank column ≡ 0 → Free g rank column
+unfolding entryRefusal
+entry-of g rank column e =
+    let w = first-none (groupRefusal g) (placeRefusal g rank column) e in
+    place-of g rank column (in-range g (w .0)) (w .1)
+
+-- a piece that is not refused lies within the packets, which have at most 64,815 letters
+pub piece-fits :
+    (g : Group) (node rank column held : ℕ) → pieceRefusal g node rank column held ≡ 0
+    → (packetStart g node column + t node rank + g .l ≤ held) × (held ≤ 64815)
+unfolding pieceRefusal packetLength
+piece-fits g node rank column held e =
+    let w = first-none (nodeRefusal g node) (first (placeRefusal g rank column) (unless (eqb held (nodeLetters g node)) 5)) e in
+    let v = first-none (placeRefusal g rank column) (unless (eqb held (nodeLetters g node)) 5) (w .1) in
+    let n = node-of g node (w .0) in
+    let f = place-of g rank column (n .group) (v .0) in
+    let same = eqb-true held (nodeLetters g node) (unless-none (eqb held (nodeLetters g node)) 5 (λ q. omega arith) (v .1)) in
+    (omega (arith, packet-fits g node n column (omega arith) (omega arith), shift-rises node rank (g .d) (omega arith) (omega arith) (omega arith)), omega (arith, node-at-most g node n))

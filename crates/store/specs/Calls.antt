@@ -10,7 +10,7 @@ use Rattle.letters.specs.Places.{both}
 use Rattle.group.specs.declared.Group.{Group}
 use Rattle.group.specs.declared.Answer.{Answer}
 use Rattle.group.specs.Answers.{unless, first, ifFine, Answers}
-use Rattle.group.specs.Ranges.{between, nodeRefusal, NodeOf}
+use Rattle.group.specs.Ranges.{between, groupRefusal, nodeRefusal, NodeOf}
 use Rattle.group.specs.Lengths.{fileLetters, nodeLetters, repairLetters}
 use Rattle.store.specs.Matrix.{packets}
 use Rattle.store.specs.Repair.{helping}
@@ -55,3 +55,18 @@ pub record Helper (g : Group) (lost helper rank : ℕ) : Type 0 where
   pub rank-low : 1 ≤ rank
   pub rank-high : rank ≤ g .d
   pub apart : helper ≡ lost → ⊥
+
+-- piece and entry: 3 for a rank outside 1..k, or a column outside rank..d
+unfoldable pub placeRefusal : Group → ℕ → ℕ → ℕ
+placeRefusal g rank column = unless (both (between 1 (g .k) rank) (between rank (g .d) column)) 3
+
+-- piece: 1, 2, 3, and 5 for the packets
+unfoldable pub pieceRefusal : Group → ℕ → ℕ → ℕ → ℕ → ℕ
+unfolding placeRefusal
+pieceRefusal g node rank column held =
+    first (nodeRefusal g node) (first (placeRefusal g rank column) (unless (eqb held (nodeLetters g node)) 5))
+
+-- entry: 1, 2, 3
+unfoldable pub entryRefusal : Group → ℕ → ℕ → ℕ
+unfolding placeRefusal
+entryRefusal g rank column = first (groupRefusal g) (placeRefusal g rank column)
