@@ -12,3 +12,6 @@ pub mod SeenRuns
 pub mod Summing
 pub mod PutBack
 pub mod Called
+pub mod Charted
+pub mod ChosenIds
+pub mod RepairCalls

@@ -10,10 +10,12 @@ use Rattle.letters.specs.Places.{both}
 use Rattle.group.specs.declared.Group.{Group}
 use Rattle.group.specs.declared.Answer.{Answer}
 use Rattle.group.specs.Answers.{unless, first, ifFine, Answers}
-use Rattle.group.specs.Ranges.{between, groupRefusal, nodeRefusal, NodeOf}
+use Rattle.group.specs.Ranges.{between, among, groupRefusal, nodeRefusal, idsRefusal, NodeOf}
 use Rattle.group.specs.Lengths.{fileLetters, nodeLetters, repairLetters}
 use Rattle.store.specs.Matrix.{packets}
-use Rattle.store.specs.Repair.{helping}
+use Rattle.store.specs.Repair.{helping, equations}
+use Rattle.store.specs.Pieces.{Chosen}
+use Rattle.store.specs.Counts.{repairCount}
 
 -- A call that is refused by this number (0: not refused) and else answers this value: its buffer then holds what is right, and where it is refused what it held before.
 pub record Called (refusal value : ℕ) (right before after : List ℕ) (r : Answer) : Type 0 where
@@ -70,3 +72,29 @@ pieceRefusal g node rank column held =
 unfoldable pub entryRefusal : Group → ℕ → ℕ → ℕ
 unfolding placeRefusal
 entryRefusal g rank column = first (groupRefusal g) (placeRefusal g rank column)
+
+-- repair: 4 for a lost node that is one of its helpers
+unfoldable pub apartRefusal : ℕ → List ℕ → ℕ
+apartRefusal lost helpers = unless (not (among lost helpers)) 4
+
+-- 1, 2, 3 for an id or the number of helpers, 4
+unfoldable pub helpersRefusal : Group → ℕ → List ℕ → ℕ
+unfolding apartRefusal
+helpersRefusal g lost helpers = first (nodeRefusal g lost) (first (idsRefusal g (g .d) helpers) (apartRefusal lost helpers))
+
+-- and then 5 for the buffer
+unfoldable pub repairRefusal : Group → ℕ → List ℕ → ℕ → ℕ
+unfolding helpersRefusal
+repairRefusal g lost helpers buffer = first (helpersRefusal g lost helpers) (unless (eqb buffer (nodeLetters g lost)) 5)
+
+-- what the buffer holds at exit solves the d equations for what it held at entry, and the count is what that is worth; a refused call leaves it as it was
+pub record Repaired (g : Group) (lost : ℕ) (helpers before after : List ℕ) (r : Answer) : Type 0 where
+  pub answer : Answers r (repairRefusal g lost helpers (length before)) (repairCount g lost helpers after)
+  pub same-length : length after ≡ length before
+  pub holds : ifFine (repairRefusal g lost helpers (length before)) (equations xors g lost helpers after) after ≡ before
+
+-- The lost node and d helpers that may rebuild it.
+pub record Helpers (g : Group) (lost : ℕ) (helpers : List ℕ) : Type 0 where
+  pub node : NodeOf g lost
+  pub chosen : Chosen g (g .d) helpers
+  pub fine : helpersRefusal g lost helpers ≡ 0

@@ -3,11 +3,18 @@ use mathlib.Core.List.{List}
 use Prim.Native.Nat.{ℕ, _+_, _-_, min}
 use Rattle.letters.specs.Algebra.{counts, sum}
 use Rattle.shifts.specs.Rule.{t}
+use Rattle.solving.specs.System.{sequence}
 use Rattle.solving.specs.Order.{ruled}
-use Rattle.solving.specs.Count.{cost}
+use Rattle.solving.specs.Count.{additions, cost}
 use Rattle.group.specs.declared.Group.{Group}
 use Rattle.group.specs.Lengths.{repairLetters}
 use Rattle.store.specs.Lists.{ranked}
+
+-- what repairing is worth, where these are the packets that come out
+unfoldable pub repairCount : Group → ℕ → List ℕ → List ℕ → ℕ
+unfolding additions sequence repairLetters ranked t
+repairCount g lost helpers rebuilt =
+    additions (g .d) (repairLetters g lost) (ruled t (ranked helpers)) (sequence 0 rebuilt (repairLetters g lost))
 
 -- solving every column, and taking out of the earlier ones what each later column put into them
 unfoldable pub recoveryCost : Group → List ℕ → ℕ

@@ -1,11 +1,12 @@
 -- What the store's inner functions leave in a buffer.
 use mathlib.Core.Path.{_≡_}
 use mathlib.Core.List.{List}
-use Prim.Native.Nat.{ℕ, _+_, _-_, _≤_, _<_}
+use Prim.Native.Nat.{ℕ, _+_, _-_, _*_, _/_, _%_, _≤_, _<_}
 use lib.Bits.{bitXor}
 use lib.ListN.{length, getD}
 use Rattle.letters.specs.Algebra.{xors}
 use Rattle.letters.specs.Places.{letter}
+use Rattle.shifts.specs.Rule.{t}
 use Rattle.group.specs.declared.Group.{Group}
 use Rattle.group.specs.Ranges.{InRange}
 use Rattle.store.specs.Matrix.{moved}
@@ -35,3 +36,14 @@ pub record Free (g : Group) (v u : ℕ) : Type 0 where
   pub within : v ≤ u
   pub upper : v ≤ g .k
   pub column : u ≤ g .d
+
+-- at most sixteen ids, each one of 1..16
+pub record Known (ids : List ℕ) : Type 0 where
+  pub few : length ids ≤ 16
+  pub low : (q : ℕ) → q < length ids → 1 ≤ getD ids q 0
+  pub high : (q : ℕ) → q < length ids → getD ids q 0 ≤ 16
+
+-- a row of sixteen shifts for each of the ids
+pub record RowsOf (ids rows : List ℕ) : Type 0 where
+  pub size : length rows ≡ 256
+  pub shifts : (j : ℕ) → j < length ids * 16 → getD rows j 0 ≡ t (getD ids (j / 16) 0) (j % 16 + 1)

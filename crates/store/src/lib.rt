@@ -3,4 +3,6 @@ pub mod encoding;
 mod entries;
 pub mod helping;
 pub mod pieces;
+pub mod repairing;
+mod rows;
 mod windows;
