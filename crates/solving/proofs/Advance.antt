@@ -1,19 +1,19 @@
 -- The solver's steps in a buffer: nothing done, one letter stored, and one step after another.
-use mathlib.Core.Path.{_≡_, refl, sym, ap, subst, _∙_}
+use mathlib.Core.Path.{_≡_, refl, sym, ap, subst, subst₂, _∙_}
 use mathlib.Core.List.{List}
 use mathlib.Core.Logic.{⊎-elim}
-use Prim.Native.Nat.{ℕ, _+_, _-_, _*_, _≤_, _<_}
+use Prim.Native.Nat.{ℕ, _+_, _*_, _≤_, _<_}
 use native.Mathlib.Nat.{add-zero, add-assoc, eq-or-lt-of-le}
 use native.Mathlib.Omega.{arith}
 use lib.Bits.{bitXor}
-use lib.ListN.{length, getD, set, length-set}
-use Rattle.solving.specs.System.{part, sequence}
+use lib.ListN.{length, set, length-set}
+use Rattle.solving.specs.System.{sequence}
 use Rattle.solving.specs.Order.{delay}
 use Rattle.solving.specs.Count.{ofEquation}
 use Rattle.solving.specs.Solver.{shiftIn, Solvable, Solved}
-use Rattle.solving.specs.Steps.{time, others, Upto, Advanced}
+use Rattle.solving.specs.Steps.{time, others, Taken, Upto, Advanced}
 use Rattle.solving.proofs.Steps.{idle, begun, ended, step}
-use Rattle.solving.proofs.System.{indexOf, index-below, sequence-inside, sequence-stored, sequence-kept}
+use Rattle.solving.proofs.System.{indexOf, index-below, sequence-stored, sequence-kept}
 
 module _ (s n : ℕ) (rows : List ℕ) where
   -- one step after another
@@ -52,22 +52,20 @@ module _ (s n : ℕ) (rows : List ℕ) where
     advanced-on xs ys from via to c h none first =
         subst (Advanced s n rows xs ys from to) (add-zero c) (advanced-then xs ys ys from via to c 0 first (advanced-idle ys via to h none))
 
-    -- the sum of what its equation takes is added to letter q of sequence u
+    -- letter q of sequence u is stored, with what its equation takes added to it
     pub advanced-letter :
-        (xs : List ℕ) (u q sum : ℕ) → length xs ≡ s * n → 1 ≤ u → u ≤ s → 1 ≤ q → q ≤ n
-        → sum ≡ others s (shiftIn rows) (sequence 0 xs n) u q
-        → Advanced s n rows xs (set xs (indexOf n u q) (bitXor (getD xs (indexOf n u q) 0) sum)) (time (shiftIn rows) u q)
-        (time (shiftIn rows) u q + 1) (ofEquation s n (shiftIn rows) (sequence 0 xs n) u q)
-    advanced-letter xs u q sum long lu hu lq hq e =
+        (xs : List ℕ) (u q letter : ℕ) → length xs ≡ s * n → 1 ≤ u → u ≤ s → 1 ≤ q → q ≤ n
+        → letter ≡ bitXor (sequence 0 xs n u q) (others s (shiftIn rows) (sequence 0 xs n) u q)
+        → Advanced s n rows xs (set xs (indexOf n u q) letter) (time (shiftIn rows) u q) (time (shiftIn rows) u q + 1)
+        (ofEquation s n (shiftIn rows) (sequence 0 xs n) u q)
+    advanced-letter xs u q letter long lu hu lq hq e =
         record {
           same-length = simp length-set;
           goes-on =
               step s n (shiftIn rows) (solvable .shifts .few-nodes) (solvable .ordered) (sequence 0 xs n)
-              (sequence 0 (set xs (indexOf n u q) (bitXor (getD xs (indexOf n u q) 0) sum)) n) u q lu hu lq hq
-              (sequence-stored 0 xs n u q (bitXor (getD xs (indexOf n u q) 0) sum) lq hq (omega (arith, index-below s n u q lu hu lq hq))
-              ∙ ap (λ v. bitXor v sum) (sym (sequence-inside 0 xs n u q lq hq))
-              ∙ ap (bitXor (sequence 0 xs n u q)) e)
-              (λ a p la apart. sequence-kept 0 xs n a p u q (bitXor (getD xs (indexOf n u q) 0) sum) la lu lq hq apart);
+              (sequence 0 (set xs (indexOf n u q) letter) n) u q lu hu lq hq
+              (sequence-stored 0 xs n u q letter lq hq (omega (arith, index-below s n u q lu hu lq hq)) ∙ e)
+              (λ a p la apart. sequence-kept 0 xs n a p u q letter la lu lq hq apart);
         }
 
     -- rank u has its turn in round r: it has no letter there,
@@ -84,20 +82,18 @@ module _ (s n : ℕ) (rows : List ℕ) where
         absurd (none p lp hp (omega (arith, ap (delay (shiftIn rows)) same))))
         (λ l. omega arith) (eq-or-lt-of-le h))
 
-    -- or the sum of what its equation takes from the others is added to it
+    -- or what its equation takes from the others is added to the letter that it has
     pub turn-letter :
-        (xs : List ℕ) (u r q sum count : ℕ) → length xs ≡ s * n → 1 ≤ u → u ≤ s → 1 ≤ q → q ≤ n → delay (shiftIn rows) u + q ≡ r
-        → sum ≡ others s (shiftIn rows) (sequence 0 xs n) u q → count ≡ ofEquation s n (shiftIn rows) (sequence 0 xs n) u q
-        → Advanced s n rows xs (set xs (indexOf n u q) (bitXor (getD xs (indexOf n u q) 0) sum)) (16 * r + u) (16 * r + (u + 1)) count
-    turn-letter xs u r q sum count long lu hu lq hq now e e′ =
-        subst
-        (λ m. Advanced s n rows xs (set xs (indexOf n u q) (bitXor (getD xs (indexOf n u q) 0) sum)) (16 * m + u) (16 * m + (u + 1)) count) now
-        (subst
-        (λ k. Advanced s n rows xs (set xs (indexOf n u q) (bitXor (getD xs (indexOf n u q) 0) sum)) (time (shiftIn rows) u q) k count)
-        (add-assoc (16 * (delay (shiftIn rows) u + q)) u 1)
-        (subst
-        (Advanced s n rows xs (set xs (indexOf n u q) (bitXor (getD xs (indexOf n u q) 0) sum)) (time (shiftIn rows) u q)
-        (time (shiftIn rows) u q + 1)) (sym e′) (advanced-letter xs u q sum long lu hu lq hq e)))
+        (xs ys : List ℕ) (u r q letter count c : ℕ) → length xs ≡ s * n → 1 ≤ u → u ≤ s → 1 ≤ q → q ≤ n → delay (shiftIn rows) u + q ≡ r
+        → Taken s n rows xs u q letter count → ys ≡ set xs (indexOf n u q) letter → c ≡ count
+        → Advanced s n rows xs ys (16 * r + u) (16 * r + (u + 1)) c × (c ≤ 16)
+    turn-letter xs ys u r q letter count c long lu hu lq hq now taken stored answered = (
+      subst (λ m. Advanced s n rows xs ys (16 * m + u) (16 * m + (u + 1)) c) now
+          (subst (λ k. Advanced s n rows xs ys (time (shiftIn rows) u q) k c) (add-assoc (16 * (delay (shiftIn rows) u + q)) u 1)
+          (subst₂ (λ zs k. Advanced s n rows xs zs (time (shiftIn rows) u q) (time (shiftIn rows) u q + 1) k) (sym stored)
+          (sym (answered ∙ taken .counted)) (advanced-letter xs u q letter long lu hu lq hq (taken .summed)))),
+      omega (arith, taken .few, solvable .shifts .few-nodes),
+    )
 
     -- from the first round on, through the last
     pub advanced-all :

@@ -1,15 +1,14 @@
 -- Delays of small shifts are small, and an array of delays grows rank by rank.
-use mathlib.Core.Path.{_≡_, refl, sym, ap, _∙_}
+use mathlib.Core.Path.{_≡_, sym, ap, _∙_}
 use mathlib.Core.List.{List}
-use mathlib.Core.Logic.{⊎-elim}
 use Prim.Native.Nat.{ℕ, zero, suc, _+_, _-_, _*_, _≤_, _<_}
-use native.Mathlib.Nat.{eq-or-lt-of-le}
 use native.Mathlib.Omega.{arith}
 use lib.ListN.{length, getD, set}
 use lib.Seq.{getD-set-same, getD-set-other}
 use Rattle.solving.specs.Order.{delay}
 use Rattle.solving.specs.Solver.{shiftIn, Rows}
-use Rattle.solving.proofs.Order.{delay-first, delay-more}
+use Rattle.solving.specs.Steps.{Delays}
+use Rattle.solving.proofs.Order.{delay-first, delay-more, one-more}
 
 -- at most 65535 rounds for each rank
 pub delay-small : (s : ℕ) (rows : List ℕ) → Rows s rows → (u : ℕ) → u ≤ s → delay (shiftIn rows) u ≤ 65535 * u
@@ -31,18 +30,15 @@ filled-first rows delays e v lv hv =
 pub filled-more :
     (rows delays : List ℕ) (u d : ℕ) → 1 ≤ u → u < length delays → Filled rows delays u
     → d ≡ getD delays (u - 1) 0 + (shiftIn rows (u + 1) (u + 1) - shiftIn rows (u + 1) u) → Filled rows (set delays u d) (u + 1)
-filled-more rows delays u d lu h filled e v lv hv =
-    ⊎-elim (λ same. here v same) (λ below. getD-set-other delays u (v - 1) d 0 (λ q. omega arith) ∙ filled v lv (omega arith))
-    (eq-or-lt-of-le hv)
-  where
-    here : (v : ℕ) → v ≡ u + 1 → getD (set delays u d) (v - 1) 0 ≡ delay (shiftIn rows) v
-    here v q =
-        ap (λ i. getD (set delays u d) i 0) (back v q)
-        ∙ getD-set-same delays u d 0 h
-        ∙ e
-        ∙ ap (λ x. x + (shiftIn rows (u + 1) (u + 1) - shiftIn rows (u + 1) u)) (filled u lu (omega arith))
-        ∙ sym (delay-more (shiftIn rows) u lu)
-        ∙ ap (delay (shiftIn rows)) (sym q)
-      where
-        back : (v : ℕ) → v ≡ u + 1 → v - 1 ≡ u
-        back v q = omega arith
+filled-more rows delays u d lu h filled e =
+    one-more (λ (v : ℕ). getD (set delays u d) (v - 1) 0 ≡ delay (shiftIn rows) v) u
+    (λ v lv hv. getD-set-other delays u (v - 1) d 0 (λ q. omega arith) ∙ filled v lv hv)
+    (ap (λ i. getD (set delays u d) i 0) (omega arith)
+    ∙ getD-set-same delays u d 0 h
+    ∙ e
+    ∙ ap (λ x. x + (shiftIn rows (u + 1) (u + 1) - shiftIn rows (u + 1) u)) (filled u lu (omega arith))
+    ∙ sym (delay-more (shiftIn rows) u lu))
+
+-- the delay of the rank after index u
+pub delay-at : (s : ℕ) (rows delays : List ℕ) → Delays s rows delays → (u : ℕ) → u < s → getD delays u 0 ≡ delay (shiftIn rows) (u + 1)
+delay-at s rows delays d u h = ap (λ i. getD delays i 0) (omega arith) ∙ d .each (u + 1) (omega arith) (omega arith)

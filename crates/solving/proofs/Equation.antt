@@ -1,20 +1,26 @@
 -- What one equation takes, sequence by sequence: a letter where the place that it reads is another sequence's and inside, else nothing.
 use mathlib.Core.Path.{_≡_, refl, sym, ap, ap₂, _∙_}
 use mathlib.Core.Bool.{cond}
+use mathlib.Core.List.{List}
 use mathlib.Core.Logic.{_⊎_, inl, inr, ⊎-elim}
-use Prim.Native.Nat.{ℕ, zero, suc, _+_, _-_, _≤_, _<_}
+use Prim.Native.Nat.{ℕ, _+_, _-_, _*_, _≤_, _<_}
+use native.Mathlib.Nat.{add-zero}
 use native.Mathlib.Omega.{arith}
 use lib.Dec.{eqb}
-use lib.Bits.{bitXor}
+use lib.Bits.{bitXor, xor-zero-r}
+use lib.ListN.{length, getD}
 use borrow.Author.Tests.{eq-eqb, ne-eqb}
-use Rattle.letters.specs.Algebra.{xors, counts, sum}
+use Rattle.letters.specs.Algebra.{xors, counts}
 use Rattle.letters.specs.Worth.{worthOf}
 use Rattle.letters.proofs.Cases.{eq-or-ne}
 use Rattle.letters.proofs.Places.{place-cases}
 use Rattle.letters.proofs.Sums.{sum-more, sum-none-terms}
-use Rattle.solving.specs.System.{Sequences}
+use Rattle.letters.proofs.Worth.{worthOf-is-one}
+use Rattle.solving.specs.System.{sequence, Sequences}
 use Rattle.solving.specs.Count.{place, other, within, taken, ofEquation}
-use Rattle.solving.specs.Steps.{others}
+use Rattle.solving.specs.Solver.{shiftIn}
+use Rattle.solving.specs.Steps.{others, Taken}
+use Rattle.solving.proofs.System.{sequences, sequence-after, index-after}
 use Rattle.solving.proofs.Within.{within-inside, within-below, within-above, other-same, other-apart}
 
 module _ (n : ℕ) (t x : ℕ → ℕ → ℕ) (u q : ℕ) where
@@ -62,8 +68,65 @@ module _ (n : ℕ) (t x : ℕ → ℕ → ℕ) (u q : ℕ) where
         outside : (place t u q a ≡ 0) ⊎ (n < place t u q a) → (m : ℕ) → within n (place t u q a) m ≡ 0
         outside out m = ⊎-elim (λ z. within-below n (place t u q a) m z) (λ l. within-above n (place t u q a) m l) out
 
-    pub takes-nothing : p ≤ 0 → (cond (eqb a u) 0 (x a (place t u q a)) ≡ 0) × (taken n t x u q a ≡ 0)
-    takes-nothing h = ⊎-elim (λ w. (w .1, w .2)) (λ w. absurd (omega arith)) read-cases
+module _ (n : ℕ) (rows buffer : List ℕ) (u q : ℕ) where
+  -- where the equation reads in the sequence after the first a, as the code has it: 0 where it takes nothing
+  abbrev pub Reads : ℕ → ℕ → Type 0
+  Reads a p = p ≡ other (a + 1) u (within n (place (shiftIn rows) u q (a + 1)) (place (shiftIn rows) u q (a + 1)))
 
-    pub takes-letter : 0 < p → (p ≤ n) × (cond (eqb a u) 0 (x a (place t u q a)) ≡ x a p) × (taken n t x u q a ≡ worthOf (x a p))
-    takes-letter h = ⊎-elim (λ w. absurd (omega arith)) (λ w. (w .1, w .2, w .3)) read-cases
+  pub taken-start : (letter : ℕ) → letter ≡ sequence 0 buffer n u q → Taken 0 n rows buffer u q letter 0
+  taken-start letter is =
+      let none = nothing-yet n (shiftIn rows) (sequence 0 buffer n) u q in
+      record { summed = is ∙ sym (ap (bitXor (sequence 0 buffer n u q)) (none .0) ∙ xor-zero-r (sequence 0 buffer n u q)); counted = sym (none .1); few = omega arith }
+
+  module _ (a letter count p : ℕ) (reads : Reads a p) where
+    cases :
+        ((p ≡ 0) × (cond (eqb (a + 1) u) 0 (sequence 0 buffer n (a + 1) (place (shiftIn rows) u q (a + 1))) ≡ 0)
+        × (taken n (shiftIn rows) (sequence 0 buffer n) u q (a + 1) ≡ 0))
+        ⊎ ((1 ≤ p) × (p ≤ n) × (cond (eqb (a + 1) u) 0 (sequence 0 buffer n (a + 1) (place (shiftIn rows) u q (a + 1))) ≡ sequence 0 buffer n (a + 1) p)
+        × (taken n (shiftIn rows) (sequence 0 buffer n) u q (a + 1) ≡ worthOf (sequence 0 buffer n (a + 1) p)))
+    cases = read-cases n (shiftIn rows) (sequence 0 buffer n) u q (a + 1) (sequences 0 buffer n) p reads
+
+    -- where there is one, the letter lies in the buffer
+    pub letter-in : (s : ℕ) → length buffer ≡ s * n → a < s → 0 < p → a * n + (p - 1) < length buffer
+    letter-in s long h lo =
+        ⊎-elim (λ w. absurd (omega arith)) (λ w. omega (arith, index-after s n a p h lo (w .1))) cases
+
+    -- it is added and counted
+    pub taken-letter :
+        Taken a n rows buffer u q letter count → 0 < p
+        → Taken (a + 1) n rows buffer u q (bitXor letter (getD buffer (a * n + (p - 1)) 0)) (count + 1)
+    taken-letter so-far lo =
+        ⊎-elim (λ w. absurd (omega arith))
+        (λ w.
+        record {
+          summed =
+              ap₂ bitXor (so-far .summed) (sym (w .2 ∙ sequence-after 0 buffer n a p lo (w .1)))
+              ∙ xors .assoc (sequence 0 buffer n u q) (others a (shiftIn rows) (sequence 0 buffer n) u q) _
+              ∙ ap (bitXor (sequence 0 buffer n u q)) (sym (others-more n (shiftIn rows) (sequence 0 buffer n) u q a));
+          counted =
+              sym (equation-more n (shiftIn rows) (sequence 0 buffer n) u q a
+              ∙ ap₂ _+_ (sym (so-far .counted)) (w .3 ∙ worthOf-is-one (sequence 0 buffer n (a + 1) p)));
+          few = omega (arith, so-far .few);
+        })
+        cases
+
+    -- or there is nothing to add
+    pub taken-nothing : Taken a n rows buffer u q letter count → p ≤ 0 → Taken (a + 1) n rows buffer u q letter count
+    taken-nothing so-far hi =
+        ⊎-elim
+        (λ w.
+        record {
+          summed =
+              so-far .summed
+              ∙ ap (bitXor (sequence 0 buffer n u q))
+              (sym (others-more n (shiftIn rows) (sequence 0 buffer n) u q a
+              ∙ ap (bitXor (others a (shiftIn rows) (sequence 0 buffer n) u q)) (w .1)
+              ∙ xor-zero-r (others a (shiftIn rows) (sequence 0 buffer n) u q)));
+          counted =
+              sym (equation-more n (shiftIn rows) (sequence 0 buffer n) u q a
+              ∙ ap₂ _+_ (sym (so-far .counted)) (w .2)
+              ∙ add-zero count);
+          few = omega (arith, so-far .few);
+        })
+        (λ w. absurd (omega arith))
+        cases

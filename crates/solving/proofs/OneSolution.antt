@@ -1,13 +1,13 @@
 -- The solving fact: two families of sequences with the same parts are the same, letter by letter in the order in which they come out. An equation's other letters come out before its own, so they agree already, and then its own agree too.
-use mathlib.Core.Path.{_≡_, refl, sym, ap, _∙_}
+use mathlib.Core.Path.{_≡_, sym, ap, _∙_}
 use mathlib.Core.Logic.{_⊎_, inl, inr, ⊎-elim}
 use Prim.Native.Nat.{ℕ, zero, suc, _+_, _-_, _≤_, _<_}
 use native.Mathlib.Nat.{eq-or-lt-of-le}
 use native.Mathlib.Omega.{arith}
-use Rattle.letters.specs.Algebra.{Adding, Letters, sum}
+use Rattle.letters.specs.Algebra.{Letters}
 use Rattle.letters.proofs.Cases.{le-or-lt, eq-or-ne}
 use Rattle.letters.proofs.Places.{place-cases}
-use Rattle.letters.proofs.Sums.{sum-same, sum-but-one}
+use Rattle.letters.proofs.Sums.{sum-but-one}
 use Rattle.solving.specs.System.{part, Sequences}
 use Rattle.solving.specs.Order.{delay, Ordered}
 

@@ -1,5 +1,5 @@
 -- Falling ids under a rule with refined increasing differences give the order of the letters: from one rank to the next the delay grows by a difference of that rank's own node, which is at least that of every later node and below that of every earlier one.
-use mathlib.Core.Path.{_≡_, refl, ap, ap₂, subst}
+use mathlib.Core.Path.{_≡_, refl, sym, ap, ap₂, subst}
 use mathlib.Core.Logic.{⊎-elim}
 use Prim.Native.Nat.{ℕ, zero, suc, _+_, _-_, _≤_, _<_}
 use native.Mathlib.Nat.{eq-or-lt-of-le}
@@ -23,6 +23,11 @@ delay-more t (suc u) h = rw add-one refl
 -- what holds of a, and of each number after one of which it holds, holds from a on
 upwards : (P : ℕ → Type 0) (a : ℕ) → P a → ((b : ℕ) → a ≤ b → P b → P (b + 1)) → (b : ℕ) → a ≤ b → P b
 upwards P a start next = le-ind P start (λ b h p. subst P (add-one b) (next b h p))
+
+-- what holds of each number from 1 to a, and of the one after, holds of each from 1 to that
+pub one-more : (P : ℕ → Type 0) (a : ℕ) → ((k : ℕ) → 1 ≤ k → k ≤ a → P k) → P (a + 1) → (k : ℕ) → 1 ≤ k → k ≤ a + 1 → P k
+one-more P a before here k lk hk =
+    ⊎-elim (λ e. subst P (sym e) here) (λ l. before k lk (omega arith)) (eq-or-lt-of-le hk)
 
 -- a later rank waits no less
 pub delay-rises : (t : ℕ → ℕ → ℕ) (a b : ℕ) → 1 ≤ a → a ≤ b → delay t a ≤ delay t b

@@ -2,12 +2,12 @@
 use mathlib.Core.Path.{_≡_, refl, sym, ap, ap₂, _∙_}
 use mathlib.Core.Bool.{cond}
 use mathlib.Core.Logic.{⊎-elim}
-use Prim.Native.Nat.{ℕ, zero, suc, _+_, _-_, _*_, _≤_, _<_}
+use Prim.Native.Nat.{ℕ, _+_, _≤_, _<_}
 use native.Mathlib.Nat.{eq-or-lt-of-le}
 use native.Mathlib.Omega.{arith}
 use lib.Bits.{bitXor}
 use lib.Dec.{eqb, ltb}
-use borrow.Author.Tests.{lt-ltb, le-ltb, eq-eqb, ne-eqb}
+use borrow.Author.Tests.{lt-ltb, le-ltb, eq-eqb}
 use Rattle.letters.specs.Algebra.{xors, bytes, counts, sum}
 use Rattle.letters.specs.Worth.{worthOf}
 use Rattle.letters.proofs.Cases.{le-or-lt, eq-or-ne}
@@ -18,6 +18,7 @@ use Rattle.solving.specs.Count.{place, other, within, taken, ofEquation,
 use Rattle.solving.specs.Steps.{time, others, tally, Upto}
 use Rattle.solving.proofs.OneSolution.{earlier, own-place}
 use Rattle.solving.proofs.System.{part-same}
+use Rattle.solving.proofs.Whole.{part-own}
 use Rattle.solving.proofs.Within.{other-same}
 
 -- an equation's worth reads the letters of the other sequences alone
@@ -124,23 +125,19 @@ module _ (s n : ℕ) (t : ℕ → ℕ → ℕ) (few : s ≤ 16) where
       unread-here a la ha ne = old a (place t u q a) la (λ w. ne (w .0))
 
       -- its own equation now gives what the letter was
+      others-here : others s t x′ u q ≡ others s t x u q
+      unfolding others
+      others-here =
+          sum-same xors s (λ a. cond (eqb a u) 0 (x′ a (place t u q a))) (λ a. cond (eqb a u) 0 (x a (place t u q a)))
+          (λ a la ha.
+          ⊎-elim (λ e. rw (eq-eqb a u e) refl) (λ ne. ap (cond (eqb a u) 0) (unread-here a la ha ne)) (eq-or-ne a u))
+
       holds-here : part xors s t x′ u q ≡ x u q
-      unfolding part others
       holds-here =
-          sum-change xors s u (λ a. cond (eqb a u) 0 (x a (place t u q a))) (λ a. x′ a (place t u q a)) (x′ u q) lu hu
-          (ap (x′ u) (own-place q (t u u))
-          ∙ sym (none-plus xors (x′ u q))
-          ∙ ap (λ v. bitXor v (x′ u q)) (sym (nothing (x u (place t u q u)))))
-          (λ a la ha ne. unread-here a la ha ne ∙ sym (other-letter a (x a (place t u q a)) ne))
-          ∙ ap (bitXor (others s t x u q)) new
+          part-own t x′ u q s lu hu
+          ∙ ap₂ bitXor others-here new
           ∙ xors .comm (others s t x u q) (bitXor (x u q) (others s t x u q))
           ∙ plus-twice bytes (x u q) (others s t x u q)
-        where
-          nothing : (v : ℕ) → cond (eqb u u) 0 v ≡ 0
-          nothing v = rw (eq-eqb u u refl) refl
-
-          other-letter : (a v : ℕ) → (a ≡ u → ⊥) → cond (eqb a u) 0 v ≡ v
-          other-letter a v ne = rw (ne-eqb a u ne) refl
 
       -- what the tally has of any other equation is as it was
       term-same : (b p : ℕ) → 1 ≤ b → b ≤ s → ((b ≡ u) × (p ≡ q) → ⊥) → term x′ (time t u q + 1) b p ≡ term x (time t u q) b p

@@ -1,5 +1,5 @@
 -- What solving costs: the letter additions, counted one by one and as document 01's sum.
-use mathlib.Core.Bool.{Bool, true, false, cond}
+use mathlib.Core.Bool.{cond}
 use Prim.Native.Nat.{ℕ, _+_, _-_}
 use lib.Dec.{eqb}
 use Rattle.letters.specs.Algebra.{counts, sum}

@@ -1,7 +1,7 @@
 -- The solver's contract: what it must be handed, and what it leaves.
 use mathlib.Core.Path.{_≡_}
 use mathlib.Core.List.{List}
-use Prim.Native.Nat.{ℕ, _+_, _-_, _*_, _^_, _≤_, _<_}
+use Prim.Native.Nat.{ℕ, _+_, _-_, _*_, _^_, _≤_}
 use lib.ListN.{length, getD}
 use Rattle.letters.specs.Algebra.{xors}
 use Rattle.solving.specs.System.{part, sequence}

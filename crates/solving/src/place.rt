@@ -1,9 +1,11 @@
 // Where an equation reads a sequence.
 ghost use mathlib.Core.Path.{_≡_};
-ghost use Prim.Native.Nat.{_+_, _-_, _^_, _≤_};
+ghost use Prim.Native.Nat.{ℕ, _+_, _-_, _^_, _≤_};
+ghost use lib.ListN.{length};
 ghost use Rattle.solving.specs.Count.{other, within};
+ghost use Rattle.solving.specs.Solver.{shiftIn};
 
-// The place that letter `q` of a piece reads in a sequence that lies at `other - own` in it, or 0 where that place is outside 1..n.
+// The place that letter `q` of a piece reads in a sequence that lies at `moved - own` in it, or 0 where that place is outside 1..n.
 // The only signed number of the store: the offset, below zero to the left.
 pub fn place(q: usize, own: usize, moved: usize, n: usize) -> usize
     requires { ⌜ (q ≤ 2 ^ 32) × (own ≤ 65535) × (moved ≤ 65535) × (n ≤ 2 ^ 32) ⌝ }
@@ -33,4 +35,19 @@ pub fn gap(own: usize, left: usize) -> usize
     ensures { λ r. ⌜ r ≡ own - left ⌝ }
 {
     if left <= own { own - left } else { 0 }
+}
+
+// The larger of two numbers.
+pub fn larger(x: usize, y: usize) -> usize
+    ensures { λ r. ⌜ (x ≤ r) × (y ≤ r) × ((m : ℕ) → x ≤ m → y ≤ m → r ≤ m) ⌝ }
+{
+    if x < y { y } else { x }
+}
+
+// The shift of the node of rank `b` at column `a`.
+pub fn shift_in(rows: &[usize], b: usize, a: usize) -> usize
+    requires { ⌜ (length (now rows) ≡ 256) × (1 ≤ b) × (b ≤ 16) × (1 ≤ a) × (a ≤ 16) ⌝ }
+    ensures { λ r. ⌜ r ≡ shiftIn (now (rows .entry)) b a ⌝ }
+{
+    rows[(b - 1) * 16 + (a - 1)]
 }

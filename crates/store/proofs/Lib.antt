@@ -15,3 +15,6 @@ pub mod Called
 pub mod Charted
 pub mod ChosenIds
 pub mod RepairCalls
+pub mod PushRun
+pub mod Pushing
+pub mod SolveColumn

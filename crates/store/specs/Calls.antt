@@ -14,8 +14,8 @@ use Rattle.group.specs.Ranges.{between, among, groupRefusal, nodeRefusal, idsRe
 use Rattle.group.specs.Lengths.{fileLetters, nodeLetters, repairLetters}
 use Rattle.store.specs.Matrix.{packets}
 use Rattle.store.specs.Repair.{helping, equations}
-use Rattle.store.specs.Pieces.{Chosen}
-use Rattle.store.specs.Counts.{repairCount}
+use Rattle.store.specs.Pieces.{reading, Chosen}
+use Rattle.store.specs.Counts.{recoveryCount, repairCount}
 
 -- A call that is refused by this number (0: not refused) and else answers this value: its buffer then holds what is right, and where it is refused what it held before.
 pub record Called (refusal value : ℕ) (right before after : List ℕ) (r : Answer) : Type 0 where
@@ -98,3 +98,23 @@ pub record Helpers (g : Group) (lost : ℕ) (helpers : List ℕ) : Type 0 where
   pub node : NodeOf g lost
   pub chosen : Chosen g (g .d) helpers
   pub fine : helpersRefusal g lost helpers ≡ 0
+
+-- recover: 1, 2, 3 for an id or the number of ids, 4
+unfoldable pub readersRefusal : Group → List ℕ → ℕ
+readersRefusal g ids = first (groupRefusal g) (idsRefusal g (g .k) ids)
+
+-- and then 5 for the buffer
+unfoldable pub recoverRefusal : Group → List ℕ → ℕ → ℕ
+unfolding readersRefusal
+recoverRefusal g ids buffer = first (readersRefusal g ids) (unless (eqb buffer (fileLetters g)) 5)
+
+-- reading what the buffer holds at exit gives what it held at entry, and the count is what that is worth; a refused call leaves it as it was
+pub record Recovered (g : Group) (ids before after : List ℕ) (r : Answer) : Type 0 where
+  pub answer : Answers r (recoverRefusal g ids (length before)) (recoveryCount g ids after)
+  pub same-length : length after ≡ length before
+  pub holds : ifFine (recoverRefusal g ids (length before)) (reading xors g after ids) after ≡ before
+
+-- Ids that may be read.
+pub record Readers (g : Group) (ids : List ℕ) : Type 0 where
+  pub chosen : Chosen g (g .k) ids
+  pub fine : readersRefusal g ids ≡ 0

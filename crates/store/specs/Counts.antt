@@ -8,6 +8,7 @@ use Rattle.solving.specs.Order.{ruled}
 use Rattle.solving.specs.Count.{additions, cost}
 use Rattle.group.specs.declared.Group.{Group}
 use Rattle.group.specs.Lengths.{repairLetters}
+use Rattle.store.specs.Recovery.{columnWorth}
 use Rattle.store.specs.Lists.{ranked}
 
 -- what repairing is worth, where these are the packets that come out
@@ -15,6 +16,11 @@ unfoldable pub repairCount : Group → ℕ → List ℕ → List ℕ → ℕ
 unfolding additions sequence repairLetters ranked t
 repairCount g lost helpers rebuilt =
     additions (g .d) (repairLetters g lost) (ruled t (ranked helpers)) (sequence 0 rebuilt (repairLetters g lost))
+
+-- what recovering is worth, where this is the file that comes out
+unfoldable pub recoveryCount : Group → List ℕ → List ℕ → ℕ
+unfolding sum columnWorth
+recoveryCount g ids file = sum counts (g .d) (λ u. columnWorth g ids file u)
 
 -- solving every column, and taking out of the earlier ones what each later column put into them
 unfoldable pub recoveryCost : Group → List ℕ → ℕ

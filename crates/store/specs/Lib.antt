@@ -6,4 +6,5 @@ pub mod Repair
 pub mod Counts
 pub mod Chain
 pub mod Steps
+pub mod Recovery
 pub mod Calls

@@ -3,6 +3,7 @@ pub mod encoding;
 mod entries;
 pub mod helping;
 pub mod pieces;
+pub mod recovery;
 pub mod repairing;
 mod rows;
 mod windows;

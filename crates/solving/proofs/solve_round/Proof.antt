@@ -1,6 +1,6 @@
 -- `solving::solve_round` meets its contract: after u turns the first u ranks have had theirs.
-use mathlib.Core.Path.{_≡_, refl, sym, ap, subst, _∙_}
-use Prim.Native.Nat.{_≤_, _<_, _+_, _-_, _*_}
+use mathlib.Core.Path.{_≡_, refl, _∙_}
+use Prim.Native.Nat.{_≤_, _+_, _-_, _*_}
 use native.Mathlib.Omega.{arith}
 use lib.ListN.{length}
 use Rattle.solving.specs.Steps.{Advanced}
@@ -9,24 +9,29 @@ use Rattle.solving.proofs.solve_round.Statement.{statement}
 use Rattle.solving.proofs.solve_round.Tie as tie
 
 abbrev Inv-loop : tie.InvT-loop
-Inv-loop part₀ s n rows delays r count₀ u₀ part count u =
+Inv-loop part₀ s n rows delays lead starts r count₀ u₀ part count u =
     (u ≤ s) × (count ≤ 16 * u) × (length part ≡ length part₀) × Advanced s n rows part₀ part (16 * r + 1) (16 * r + (u + 1)) count
 
 abbrev μ-loop : tie.MeasureT-loop
-μ-loop part₀ s n rows delays r count₀ u₀ part count u = s - u
+μ-loop part₀ s n rows delays lead starts r count₀ u₀ part count u = s - u
 
 loop-holds : tie.Need-loop-holds Inv-loop μ-loop
 loop-holds c =
-    let a = c .before .before .before .args in
-    (omega arith, omega arith, refl, advanced-idle (a .s) (a .n) (a .rows .now) (c .before .before .before .pre .0) (a .part .now) _ _ (omega arith) (λ b p lb hb lp hp h. h))
+    let a = c .before .before .before .before .args in (
+      omega arith,
+      omega arith,
+      refl,
+      advanced-idle (a .s) (a .n) (a .rows .now) (c .before .before .before .before .pre .0) (a .part .now) _ _ (omega arith) (λ b p lb hb lp hp h. h),
+    )
 
 add-solve-rank : tie.Need-add-solve-rank Inv-loop μ-loop
 add-solve-rank c = omega arith
 
 solve-rank-requires : tie.Need-solve-rank-requires Inv-loop μ-loop
 solve-rank-requires c κs =
-    let start = c .before .before .before .before .before .before in
-    (start .pre .0, (c .before .before .loop .inv .2 ∙ start .pre .1 .0, (start .pre .1 .1 .0, (omega arith, omega arith, omega arith))))
+    let start = c .before .before .before .before .before .before .before in
+    let round = start .pre .1 .1 .1 in
+    (start .pre .0, (c .before .before .loop .inv .2 ∙ start .pre .1 .0, (start .pre .1 .1 .0, (omega arith, omega arith, round .0, round .1, omega arith))))
 
 add-count : tie.Need-add-count Inv-loop μ-loop
 add-count c = omega arith
@@ -39,7 +44,7 @@ loop-less c = omega arith
 
 loop-again : tie.Need-loop-again Inv-loop μ-loop
 loop-again c =
-    let a = c .before .before .before .before .before .before .before .before .before .args in
+    let a = c .before .before .before .before .before .before .before .before .before .before .args in
     let l = c .before .before .before .before .before .loop in
     let turn = c .before .before .solve-rank in (
       omega arith,
@@ -54,7 +59,7 @@ same-length c = c .before .loop .inv .2
 
 returns : tie.Need-returns Inv-loop μ-loop
 returns c =
-    let start = c .before .before .before .before .before in
+    let start = c .before .before .before .before .before .before in
     let a = start .args in
     let l = c .before .loop in
     let few = start .pre .0 .shifts .few-nodes in (

@@ -1,5 +1,5 @@
 -- `solving::place::place` meets its contract: its signed number is the place where that is from 1 on, and below 1 where the place is 0.
-use mathlib.Core.Path.{_≡_, sym, ap, subst, _∙_}
+use mathlib.Core.Path.{sym, ap, subst, _∙_}
 use native.Mathlib.Omega.{arith}
 use borrow.Author.Needs.{needs}
 use lib.Dec.{T}

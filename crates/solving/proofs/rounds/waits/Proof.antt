@@ -1,14 +1,14 @@
 -- `solving::waits` meets its contract: each rank's delay is the one before it and the gap between them.
-use mathlib.Core.Path.{_≡_, refl, sym, ap, ap₂, _∙_}
+use mathlib.Core.Path.{_≡_, refl, ap, ap₂, _∙_}
 use Prim.Native.Nat.{_≤_, _+_, _-_}
 use native.Mathlib.Omega.{arith}
 use lib.ListN.{length, length-set, getD, replicate}
 use Rattle.solving.specs.Solver.{shiftIn}
 use Rattle.solving.proofs.Delays.{Filled, filled-first, filled-more, delay-small}
-use Rattle.solving.proofs.waits.Statement.{statement}
-use Rattle.solving.proofs.waits.Tie as tie
-use Rattle.solving.proofs.waits.Reads as reads
-use Rattle.solving.proofs.waits.Lts as lts
+use Rattle.solving.proofs.rounds.waits.Statement.{statement}
+use Rattle.solving.proofs.rounds.waits.Tie as tie
+use Rattle.solving.proofs.rounds.waits.Reads as reads
+use Rattle.solving.proofs.rounds.waits.Lts as lts
 
 abbrev Inv-loop : tie.InvT-loop
 Inv-loop s rows delays₀ u₀ delays u = (1 ≤ u) × (u ≤ s) × (length delays ≡ 16) × Filled rows delays u

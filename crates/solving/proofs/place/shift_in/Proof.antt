@@ -2,8 +2,8 @@
 use mathlib.Core.Path.{refl}
 use borrow.Author.Needs.{needs}
 use Rattle.solving.specs.Solver.{shiftIn}
-use Rattle.solving.proofs.shift_in.Statement.{statement}
-use Rattle.solving.proofs.shift_in.Tie as tie
+use Rattle.solving.proofs.place.shift_in.Statement.{statement}
+use Rattle.solving.proofs.place.shift_in.Tie as tie
 
 sub-result : tie.Need-sub-result
 sub-result c = search needs

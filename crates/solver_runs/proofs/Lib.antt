@@ -1,0 +1,2 @@
+-- That the rows of consecutive ids can be solved.
+pub mod Solvable

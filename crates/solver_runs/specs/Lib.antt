@@ -1,0 +1,2 @@
+-- The rows that the runs hand to the solver.
+pub mod Consecutive
