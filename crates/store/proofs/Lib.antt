@@ -18,3 +18,5 @@ pub mod RepairCalls
 pub mod PushRun
 pub mod Pushing
 pub mod SolveColumn
+pub mod Stages
+pub mod RecoverCalls

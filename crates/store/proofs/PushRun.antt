@@ -56,10 +56,13 @@ moved-sum l e f h =
   where
     whole : l ≡ e + (l - e)
     whole = omega arith
+
     there : (q : ℕ) → e + q - e ≡ q
     there q = omega arith
+
     out : (q : ℕ) → q ≡ 0 → within l q (f q) ≡ 0
     out q z = simp (inside-below l q z)
+
     still : (q : ℕ) → 1 ≤ q → q ≤ l → within l q (f q) ≡ f q
     still q lo hi = simp (inside-true l q lo hi)
 

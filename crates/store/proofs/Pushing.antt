@@ -61,30 +61,33 @@ module _ (g : Group) (ids buffer : List ℕ) (collected : Collected g ids buffer
       record {
         same-length = ap length is ∙ pushed-length (g .l) buffer a b moved first order last reach;
         here =
-          λ p lo hi.
-          ap (λ xs. sequence 0 xs (g .l) a p) is
-          ∙ pushed-here (g .l) buffer a b moved first order last reach p lo hi
-          ∙ ap (λ q. bitXor (sequence 0 buffer (g .l) a p) (sequence 0 buffer (g .l) b q)) (seen p);
+            λ p lo hi.
+            ap (λ xs. sequence 0 xs (g .l) a p) is
+            ∙ pushed-here (g .l) buffer a b moved first order last reach p lo hi
+            ∙ ap (λ q. bitXor (sequence 0 buffer (g .l) a p) (sequence 0 buffer (g .l) b q)) (seen p);
         there =
-          λ v x p lx hx lv hv other.
-          ap (λ xs. sequence 0 xs (g .l) (entryNumber (g .k) v x) p) is
-          ∙ pushed-there (g .l) buffer a b moved first order last reach (entryNumber (g .k) v x) p (from-one (g .k) v x lv)
-          (λ e. let z = entry-one (g .k) v x w c (omega arith) lv hv lw (omega arith) e in other (z .0) (z .1))
-          (fits v x lx hx lv hv);
+            λ v x p lx hx lv hv other.
+            ap (λ xs. sequence 0 xs (g .l) (entryNumber (g .k) v x) p) is
+            ∙ pushed-there (g .l) buffer a b moved first order last reach (entryNumber (g .k) v x) p (from-one (g .k) v x lv)
+            (λ e. let z = entry-one (g .k) v x w c (omega arith) lv hv lw (omega arith) e in other (z .0) (z .1))
+            (fits v x lx hx lv hv);
         counted =
-          worths
-          ∙ pushed-worth (g .l) buffer a b moved first order last reach
-          ∙ sum-same counts (g .l) (λ p. within (g .l) (p - moved) (worthOf (sequence 0 buffer (g .l) b (p - moved))))
-          (λ p. within (g .l) (seenAt ids w u p) (worthOf (sequence 0 buffer (g .l) b (seenAt ids w u p))))
-          (λ p lo hi. ap (λ q. within (g .l) q (worthOf (sequence 0 buffer (g .l) b q))) (seen p))
+            worths
+            ∙ pushed-worth (g .l) buffer a b moved first order last reach
+            ∙ sum-same counts (g .l) (λ p. within (g .l) (p - moved) (worthOf (sequence 0 buffer (g .l) b (p - moved))))
+            (λ p. within (g .l) (seenAt ids w u p) (worthOf (sequence 0 buffer (g .l) b (seenAt ids w u p))))
+            (λ p lo hi. ap (λ q. within (g .l) q (worthOf (sequence 0 buffer (g .l) b q))) (seen p));
       }
     where
       a : ℕ
       a = entryNumber (g .k) w c
+
       b : ℕ
       b = entryNumber (g .k) c u
+
       first : 1 ≤ a
       first = from-one (g .k) w c lw
+
       last : (b - 1) * g .l + g .l ≤ length buffer
       last = fits c u (omega arith) hu (omega arith) (omega arith)
 
@@ -95,15 +98,15 @@ module _ (g : Group) (ids buffer : List ℕ) (collected : Collected g ids buffer
       record {
         same-length = refl;
         here =
-          λ p lo hi.
-          sym (xor-zero-r (standing g buffer w c p))
-          ∙ ap (bitXor (standing g buffer w c p))
-          (sym (ap (standing g buffer c u) (gone p hi) ∙ sequences 0 buffer (g .l) .nothing-below (entryNumber (g .k) c u)));
+            λ p lo hi.
+            sym (xor-zero-r (standing g buffer w c p))
+            ∙ ap (bitXor (standing g buffer w c p))
+            (sym (ap (standing g buffer c u) (gone p hi) ∙ sequences 0 buffer (g .l) .nothing-below (entryNumber (g .k) c u)));
         there = λ v x p lx hx lv hv other. refl;
         counted =
-          sym
-          (sum-none counts (g .l) (λ p. within (g .l) (seenAt ids w u p) (worthOf (standing g buffer c u (seenAt ids w u p))))
-          (λ p lo hi. simp (inside-below (g .l) (seenAt ids w u p) (gone p hi))))
+            sym
+            (sum-none counts (g .l) (λ p. within (g .l) (seenAt ids w u p) (worthOf (standing g buffer c u (seenAt ids w u p))))
+            (λ p lo hi. simp (inside-below (g .l) (seenAt ids w u p) (gone p hi))));
       }
     where
       gone : (p : ℕ) → p ≤ g .l → seenAt ids w u p ≡ 0
@@ -112,9 +115,10 @@ module _ (g : Group) (ids buffer : List ℕ) (collected : Collected g ids buffer
   -- the node of rank w is one of the table's
   pub node-range : (1 ≤ getD ids (w - 1) 0) × (getD ids (w - 1) 0 ≤ 16)
   unfolding ranked
-  node-range =
-      (collected .chosen .falling .from-one w lw (omega arith),
-      omega (arith, collected .chosen .known w lw (omega arith), collected .chosen .group .n-high))
+  node-range = (
+    collected .chosen .falling .from-one w lw (omega arith),
+    omega (arith, collected .chosen .known w lw (omega arith), collected .chosen .group .n-high),
+  )
 
   -- as the code has it: two shifts and two starts
   module _ (su sw start from : ℕ) (esu : su ≡ t (getD ids (w - 1) 0) u) (esw : sw ≡ t (getD ids (w - 1) 0) w)
@@ -124,9 +128,10 @@ module _ (g : Group) (ids buffer : List ℕ) (collected : Collected g ids buffer
     shifts-rise = omega (arith, rises)
 
     pub runs-fit : (start + g .l ≤ from) × (from + g .l ≤ length buffer)
-    runs-fit =
-        (omega (arith, sequences-apart (g .l) (entryNumber (g .k) w c) (entryNumber (g .k) c u) (from-one (g .k) w c lw) order),
-        omega (arith, fits c u (omega arith) hu (omega arith) (omega arith)))
+    runs-fit = (
+      omega (arith, sequences-apart (g .l) (entryNumber (g .k) w c) (entryNumber (g .k) c u) (from-one (g .k) w c lw) order),
+      omega (arith, fits c u (omega arith) hu (omega arith) (omega arith)),
+    )
 
     same-move : su - sw ≡ moved
     unfolding ranked
@@ -135,14 +140,15 @@ module _ (g : Group) (ids buffer : List ℕ) (collected : Collected g ids buffer
     pub push-done :
         (after : List ℕ) (count : ℕ) → su - sw < g .l → after ≡ added xors buffer (start + (su - sw)) (take (g .l - (su - sw)) (drop from buffer))
         → count ≡ worth (take (g .l - (su - sw)) (drop from buffer)) → PushedRun g ids u c w buffer after count × (count ≤ 4096)
-    push-done after count reach is worths =
-        (run-pushed after count (omega (arith, same-move))
-        (is
-        ∙ ap (λ m. added xors buffer (start + m) (take (g .l - m) (drop from buffer))) same-move
-        ∙ ap₂ (λ s f. added xors buffer (s + moved) (take (g .l - moved) (drop f buffer))) est efr)
-        (worths ∙ ap₂ (λ m f. worth (take (g .l - m) (drop f buffer))) same-move efr),
-        omega
-        (arith, worth-at-most (take (g .l - (su - sw)) (drop from buffer)), length-take (g .l - (su - sw)) (drop from buffer), collected .chosen .group .l-high))
+    push-done after count reach is worths = (
+      run-pushed after count (omega (arith, same-move))
+          (is
+          ∙ ap (λ m. added xors buffer (start + m) (take (g .l - m) (drop from buffer))) same-move
+          ∙ ap₂ (λ s f. added xors buffer (s + moved) (take (g .l - moved) (drop f buffer))) est efr)
+          (worths ∙ ap₂ (λ m f. worth (take (g .l - m) (drop f buffer))) same-move efr),
+      omega
+          (arith, worth-at-most (take (g .l - (su - sw)) (drop from buffer)), length-take (g .l - (su - sw)) (drop from buffer), collected .chosen .group .l-high),
+    )
 
     pub push-nothing : g .l ≤ su - sw → PushedRun g ids u c w buffer buffer 0
     push-nothing past = run-nothing (omega (arith, same-move))
@@ -155,7 +161,7 @@ module _ (g : Group) (ids buffer : List ℕ) (u c : ℕ) where
         same-length = refl;
         here = λ w p lw hw lp hp. absurd (omega arith);
         there = λ v x p lx hx lv hv past. refl;
-        counted = sym (sum-none-terms counts (λ w. runWorth g ids buffer u c w))
+        counted = sym (sum-none-terms counts (λ w. runWorth g ids buffer u c w));
       }
 
   pub into-more :
@@ -166,27 +172,27 @@ module _ (g : Group) (ids buffer : List ℕ) (u c : ℕ) where
       record {
         same-length = run .same-length ∙ done .same-length;
         here =
-          λ w p lw hw lp hp.
-          ⊎-elim
-          (λ e.
-          subst (λ v. standing g after v c p ≡ bitXor (standing g buffer v c p) (standing g buffer c u (seenAt ids v u p))) (sym e)
-          (run .here p lp hp
-          ∙ ap₂ bitXor (done .there (m + 1) c p (omega arith) (omega arith) (omega arith) (omega arith) (λ q. omega arith)) (column-u (seenAt ids (m + 1) u p))))
-          (λ ne.
-          run .there w c p (omega arith) (omega arith) lw (omega arith) (λ q e. ne e)
-          ∙ done .here w p lw (omega arith) lp hp)
-          (eq-or-ne w (m + 1));
+            λ w p lw hw lp hp.
+            ⊎-elim
+            (λ e.
+            subst (λ v. standing g after v c p ≡ bitXor (standing g buffer v c p) (standing g buffer c u (seenAt ids v u p))) (sym e)
+            (run .here p lp hp
+            ∙ ap₂ bitXor (done .there (m + 1) c p (omega arith) (omega arith) (omega arith) (omega arith) (λ q. omega arith)) (column-u (seenAt ids (m + 1) u p))))
+            (λ ne.
+            run .there w c p (omega arith) (omega arith) lw (omega arith) (λ q e. ne e)
+            ∙ done .here w p lw (omega arith) lp hp)
+            (eq-or-ne w (m + 1));
         there =
-          λ v x p lx hx lv hv past.
-          run .there v x p lx hx lv hv (λ e q. omega (arith, past e))
-          ∙ done .there v x p lx hx lv hv (λ e. omega (arith, past e));
+            λ v x p lx hx lv hv past.
+            run .there v x p lx hx lv hv (λ e q. omega (arith, past e))
+            ∙ done .there v x p lx hx lv hv (λ e. omega (arith, past e));
         counted =
-          ap₂ _+_ (done .counted)
-          (run .counted
-          ∙ sum-same counts (g .l) (λ p. within (g .l) (seenAt ids (m + 1) u p) (worthOf (standing g mid c u (seenAt ids (m + 1) u p))))
-          (λ p. within (g .l) (seenAt ids (m + 1) u p) (worthOf (standing g buffer c u (seenAt ids (m + 1) u p))))
-          (λ p lo hi. ap (λ z. within (g .l) (seenAt ids (m + 1) u p) (worthOf z)) (column-u (seenAt ids (m + 1) u p))))
-          ∙ sym (sum-more counts m (λ w. runWorth g ids buffer u c w))
+            ap₂ _+_ (done .counted)
+            (run .counted
+            ∙ sum-same counts (g .l) (λ p. within (g .l) (seenAt ids (m + 1) u p) (worthOf (standing g mid c u (seenAt ids (m + 1) u p))))
+            (λ p. within (g .l) (seenAt ids (m + 1) u p) (worthOf (standing g buffer c u (seenAt ids (m + 1) u p))))
+            (λ p lo hi. ap (λ z. within (g .l) (seenAt ids (m + 1) u p) (worthOf z)) (column-u (seenAt ids (m + 1) u p))))
+            ∙ sym (sum-more counts m (λ w. runWorth g ids buffer u c w));
       }
     where
       -- the column that is taken out stays as it is
@@ -201,7 +207,7 @@ module _ (g : Group) (ids buffer : List ℕ) (u : ℕ) where
         same-length = refl;
         here = λ c w p lc hc lw hw lp hp. absurd (omega arith);
         there = λ v x p past hx lv hv. refl;
-        counted = sym (sum-none-terms counts (λ c. sum counts c (λ w. runWorth g ids buffer u c w)))
+        counted = sym (sum-none-terms counts (λ c. sum counts c (λ w. runWorth g ids buffer u c w)));
       }
 
   pub push-more :
@@ -212,29 +218,29 @@ module _ (g : Group) (ids buffer : List ℕ) (u : ℕ) where
       record {
         same-length = into .same-length ∙ done .same-length;
         here =
-          λ c w p lc hc lw hw lp hp.
-          ⊎-elim
-          (λ e.
-          let fit : w ≤ m + 1 = omega arith in
-          subst (λ x. standing g after w x p ≡ bitXor (standing g buffer w x p) (standing g buffer x u (seenAt ids w u p))) (sym e)
-          (into .here w p lw fit lp hp
-          ∙ ap₂ bitXor (done .there w (m + 1) p (omega arith) (omega arith) lw (omega arith)) (column-u (m + 1) (seenAt ids w u p) (omega arith) (omega arith))))
-          (λ ne.
-          into .there w c p lc (omega arith) lw (omega arith) (λ e. absurd (ne e))
-          ∙ done .here c w p lc (omega arith) lw hw lp hp)
-          (eq-or-ne c (m + 1));
+            λ c w p lc hc lw hw lp hp.
+            ⊎-elim
+            (λ e.
+            let fit : w ≤ m + 1 = omega arith in
+            subst (λ x. standing g after w x p ≡ bitXor (standing g buffer w x p) (standing g buffer x u (seenAt ids w u p))) (sym e)
+            (into .here w p lw fit lp hp
+            ∙ ap₂ bitXor (done .there w (m + 1) p (omega arith) (omega arith) lw (omega arith)) (column-u (m + 1) (seenAt ids w u p) (omega arith) (omega arith))))
+            (λ ne.
+            into .there w c p lc (omega arith) lw (omega arith) (λ e. absurd (ne e))
+            ∙ done .here c w p lc (omega arith) lw hw lp hp)
+            (eq-or-ne c (m + 1));
         there =
-          λ v x p past hx lv hv.
-          into .there v x p (omega arith) hx lv hv (λ e. absurd (omega arith)) ∙ done .there v x p (omega arith) hx lv hv;
+            λ v x p past hx lv hv.
+            into .there v x p (omega arith) hx lv hv (λ e. absurd (omega arith)) ∙ done .there v x p (omega arith) hx lv hv;
         counted =
-          ap₂ _+_ (done .counted)
-          (into .counted
-          ∙ sum-same counts (m + 1) (λ w. runWorth g ids mid u (m + 1) w) (λ w. runWorth g ids buffer u (m + 1) w)
-          (λ w lw hw.
-          sum-same counts (g .l) (λ p. within (g .l) (seenAt ids w u p) (worthOf (standing g mid (m + 1) u (seenAt ids w u p))))
-          (λ p. within (g .l) (seenAt ids w u p) (worthOf (standing g buffer (m + 1) u (seenAt ids w u p))))
-          (λ p lo hi. ap (λ z. within (g .l) (seenAt ids w u p) (worthOf z)) (column-u (m + 1) (seenAt ids w u p) (omega arith) (omega arith)))))
-          ∙ sym (sum-more counts m (λ c. sum counts c (λ w. runWorth g ids buffer u c w)))
+            ap₂ _+_ (done .counted)
+            (into .counted
+            ∙ sum-same counts (m + 1) (λ w. runWorth g ids mid u (m + 1) w) (λ w. runWorth g ids buffer u (m + 1) w)
+            (λ w lw hw.
+            sum-same counts (g .l) (λ p. within (g .l) (seenAt ids w u p) (worthOf (standing g mid (m + 1) u (seenAt ids w u p))))
+            (λ p. within (g .l) (seenAt ids w u p) (worthOf (standing g buffer (m + 1) u (seenAt ids w u p))))
+            (λ p lo hi. ap (λ z. within (g .l) (seenAt ids w u p) (worthOf z)) (column-u (m + 1) (seenAt ids w u p) (omega arith) (omega arith)))))
+            ∙ sym (sum-more counts m (λ c. sum counts c (λ w. runWorth g ids buffer u c w)));
       }
     where
       column-u : (c p : ℕ) → 1 ≤ c → c ≤ m + 1 → standing g mid c u p ≡ standing g buffer c u p

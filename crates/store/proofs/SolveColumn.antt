@@ -48,6 +48,10 @@ additions-bound s n u x =
     small false true m h = h
     small false false m h = omega arith
 
+-- what was solved for as many sequences, by another name of that number
+pub solved-as : (s s′ n : ℕ) (rows lent solution : List ℕ) (count : ℕ) → s ≡ s′ → Solved s n rows lent solution count → Solved s′ n rows lent solution count
+solved-as s s′ n rows lent solution count e solved = subst (λ m. Solved m n rows lent solution count) e solved
+
 -- where letter q + 1 of entry (v,u) stands: v - 1 sequences after the column's start
 entry-index : (k l v u q : ℕ) → 1 ≤ v → (entryNumber k v u - 1) * l + q ≡ before k u * l + ((v - 1) * l + q)
 unfolding entryNumber
@@ -61,9 +65,10 @@ entry-index k l v u q lv =
 entry-within :
     (k l v u q : ℕ) → 1 ≤ v → v ≤ min u k → q < l
     → (before k u * l ≤ (entryNumber k v u - 1) * l + q) × ((entryNumber k v u - 1) * l + q < before k u * l + min u k * l)
-entry-within k l v u q lv hv h =
-    (omega (arith, entry-index k l v u q lv),
-    omega (arith, entry-index k l v u q lv, index-below (min u k) l v (q + 1) lv hv (omega arith) (omega arith), place))
+entry-within k l v u q lv hv h = (
+  omega (arith, entry-index k l v u q lv),
+  omega (arith, entry-index k l v u q lv, index-below (min u k) l v (q + 1) lv hv (omega arith) (omega arith), place),
+)
   where
     place : (v - 1) * l + (q + 1 - 1) ≡ (v - 1) * l + q
     place = ap (λ m. (v - 1) * l + m) back
@@ -83,16 +88,22 @@ module _ (g : Group) (ids buffer : List ℕ) (collected : Collected g ids buffer
   pub column-fits : before (g .k) u * g .l + s * g .l ≤ length buffer
   unfolding fileLetters
   column-fits =
-      omega
-      (arith, columns-apart (g .k) (g .l) u (g .d + 1) (omega arith) lu (omega arith), collected .long,
-      ap (λ m. m * g .l) (before-all g (collected .chosen .group)))
+      omega (
+        arith,
+        columns-apart (g .k) (g .l) u (g .d + 1) (omega arith) lu (omega arith),
+        collected .long,
+        ap (λ m. m * g .l) (before-all g (collected .chosen .group)),
+      )
 
   module _ (start end : ℕ) (starts : start ≡ before (g .k) u * g .l) (ends : end ≡ start + s * g .l) where
     abbrev lent : List ℕ
     lent = take (end - start) (drop start buffer)
 
+    pub lent-size : length lent ≡ end - start
+    lent-size = length-take-le (end - start) (drop start buffer) (rw length-drop (omega (arith, column-fits)))
+
     pub lent-length : length lent ≡ s * g .l
-    lent-length = length-take-le (end - start) (drop start buffer) (rw length-drop (omega (arith, column-fits))) ∙ size
+    lent-length = lent-size ∙ size
       where
         size : end - start ≡ s * g .l
         size = omega arith
@@ -153,43 +164,48 @@ module _ (g : Group) (ids buffer : List ℕ) (collected : Collected g ids buffer
           record {
             same-length = push .same-length ∙ middle-length;
             solved =
-              λ v p lv hv lp hp.
-              part-same xors s (shifts ids) (shifts ids) (λ a. standing g after a u) (sequence 0 solution (g .l)) v p
-              (λ a la ha. after-own a ((p + shifts ids v v) - shifts ids v a) la ha)
-              ∙ sym (charted-part ids rows r g (g .k) (collected .chosen) (omega arith) s (omega arith) (omega arith) (sequence 0 solution (g .l)) v p lv hv)
-              ∙ solved .parts v p lv hv lp hp
-              ∙ lent-entry v p lv hv;
+                λ v p lv hv lp hp.
+                part-same xors s (shifts ids) (shifts ids) (λ a. standing g after a u) (sequence 0 solution (g .l)) v p
+                (λ a la ha. after-own a ((p + shifts ids v v) - shifts ids v a) la ha)
+                ∙ sym (charted-part ids rows r g (g .k) (collected .chosen) (omega arith) s (omega arith) (omega arith) (sequence 0 solution (g .l)) v p lv hv)
+                ∙ solved .parts v p lv hv lp hp
+                ∙ lent-entry v p lv hv;
             pushed =
-              λ c w p lc hc hk lw hw lp hp.
-              push .here c w p lc (omega arith) lw hw lp hp
-              ∙ ap₂ bitXor (middle-other w c p lc (λ e. omega arith) lw (omega arith)) (sym (still c (seenAt ids w u p) lc (omega arith)));
+                λ c w p lc hc hk lw hw lp hp.
+                push .here c w p lc (omega arith) lw hw lp hp
+                ∙ ap₂ bitXor (middle-other w c p lc (λ e. omega arith) lw (omega arith)) (sym (still c (seenAt ids w u p) lc (omega arith)));
             kept =
-              λ v x p lx hx past ne lv hv.
-              push .there v x p (past-columns x past ne) hx lv hv ∙ middle-other v x p lx ne lv hv;
+                λ v x p lx hx past ne lv hv.
+                push .there v x p (past-columns x past ne) hx lv hv ∙ middle-other v x p lx ne lv hv;
             counted =
-              ap₂ _+_
-              (solved .counted
-              ∙ charted-additions ids rows r g (g .k) (collected .chosen) (omega arith) s (omega arith) (omega arith) (g .l) (sequence 0 solution (g .l))
-              ∙ additions-same s (g .l) (shifts ids) (shifts ids) (sequence 0 solution (g .l)) (λ a. standing g after a u) (λ b a lb hb la ha. refl)
-              (λ a p la ha. sym (after-own a p la ha)))
-              (push .counted
-              ∙ sum-same counts (min (u - 1) (g .k)) (λ c. sum counts c (λ w. runWorth g ids middle u c w)) (λ c. sum counts c (λ w. runWorth g ids after u c w))
-              (λ c lc hc.
-              sum-same counts c (λ w. runWorth g ids middle u c w) (λ w. runWorth g ids after u c w)
-              (λ w lw hw.
-              sum-same counts (g .l) (λ p. within (g .l) (seenAt ids w u p) (worthOf (standing g middle c u (seenAt ids w u p))))
-              (λ p. within (g .l) (seenAt ids w u p) (worthOf (standing g after c u (seenAt ids w u p))))
-              (λ p lp hp. ap (λ z. within (g .l) (seenAt ids w u p) (worthOf z)) (sym (still c (seenAt ids w u p) lc (omega arith)))))));
+                ap₂ _+_
+                (solved .counted
+                ∙ charted-additions ids rows r g (g .k) (collected .chosen) (omega arith) s (omega arith) (omega arith) (g .l) (sequence 0 solution (g .l))
+                ∙ additions-same s (g .l) (shifts ids) (shifts ids) (sequence 0 solution (g .l)) (λ a. standing g after a u) (λ b a lb hb la ha. refl)
+                (λ a p la ha. sym (after-own a p la ha)))
+                (push .counted
+                ∙ sum-same counts (min (u - 1) (g .k)) (λ c. sum counts c (λ w. runWorth g ids middle u c w)) (λ c. sum counts c (λ w. runWorth g ids after u c w))
+                (λ c lc hc.
+                sum-same counts c (λ w. runWorth g ids middle u c w) (λ w. runWorth g ids after u c w)
+                (λ w lw hw.
+                sum-same counts (g .l) (λ p. within (g .l) (seenAt ids w u p) (worthOf (standing g middle c u (seenAt ids w u p))))
+                (λ p. within (g .l) (seenAt ids w u p) (worthOf (standing g after c u (seenAt ids w u p))))
+                (λ p lp hp. ap (λ z. within (g .l) (seenAt ids w u p) (worthOf z)) (sym (still c (seenAt ids w u p) lc (omega arith)))))));
             bound =
-              omega
-              (arith, solved .counted, additions-bound s (g .l) (shiftIn rows) (sequence 0 solution (g .l)),
-              mul-le-mul {n₁ = s} {m₁ = g .l * s} {n₂ = 16} {m₂ = 65536} (omega arith) (mul-le-mul {n₁ = g .l} {m₁ = s} {n₂ = 4096} {m₂ = 16} (omega arith) (omega arith)))
+                omega (
+                  arith,
+                  solved .counted,
+                  additions-bound s (g .l) (shiftIn rows) (sequence 0 solution (g .l)),
+                  mul-le-mul {n₁ = s} {m₁ = g .l * s} {n₂ = 16} {m₂ = 65536} (omega arith) (mul-le-mul {n₁ = g .l} {m₁ = s} {n₂ = 4096} {m₂ = 16} (omega arith) (omega arith)),
+                );
           }
         where
           -- column u stays as it was solved while it is taken out of the others
           still : (c p : ℕ) → 1 ≤ c → c ≤ s → standing g after c u p ≡ standing g middle c u p
           still c p lc hc = push .there c u p (omega arith) hu lc hc
+
           after-own : (a p : ℕ) → 1 ≤ a → a ≤ s → standing g after a u p ≡ sequence 0 solution (g .l) a p
           after-own a p la ha = still a p la ha ∙ middle-own a p la ha
+
           past-columns : (x : ℕ) → (x < u → g .k < x) → (x ≡ u → ⊥) → min (u - 1) (g .k) < x
           past-columns x past ne = ⊎-elim (λ up. omega arith) (λ down. omega (arith, past down)) (le-or-lt u x)

@@ -2,8 +2,10 @@
 use crate::entries;
 use crate::rows;
 use crate::windows;
-use group::{Answer, Check, Group, Refusal};
-
+use group::Answer;
+use group::Check;
+use group::Group;
+use group::Refusal;
 ghost use mathlib.Core.Path.{_≡_};
 ghost use Prim.Native.Nat.{_+_, _-_, _*_, _≤_, min};
 ghost use lib.ListN.{length};

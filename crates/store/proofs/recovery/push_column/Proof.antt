@@ -38,9 +38,12 @@ loop-less : tie.Need-loop-less Inv-loop μ-loop
 loop-less c = search needs
 
 loop-again : tie.Need-loop-again Inv-loop μ-loop
-loop-again c = let l = c .before .before .before .before .before .loop in
-    (omega arith, l .inv .1, push-more _ _ _ _ (l .c) _ _ _ _ (omega arith) (omega arith) (omega arith) (l .inv .2) (c .before .before .push-into .ensures .0),
-    omega (arith, c .before .before .push-into .ensures .1))
+loop-again c = let l = c .before .before .before .before .before .loop in (
+  omega arith,
+  l .inv .1,
+  push-more _ _ _ _ (l .c) _ _ _ _ (omega arith) (omega arith) (omega arith) (l .inv .2) (c .before .before .push-into .ensures .0),
+  omega (arith, c .before .before .push-into .ensures .1),
+)
 
 same-length : tie.Need-same-length Inv-loop μ-loop
 same-length c = c .before .loop .inv .2 .same-length

@@ -32,9 +32,11 @@ loop-less : tie.Need-loop-less Inv-loop μ-loop
 loop-less c = search needs
 
 loop-again : tie.Need-loop-again Inv-loop μ-loop
-loop-again c = let l = c .before .before .before .before .before .loop in
-    (omega arith, into-more _ _ _ _ _ (l .w) _ _ _ _ (omega arith) (omega arith) (omega arith) (omega arith) (l .inv .1) (c .before .before .push-run .ensures .0),
-    omega (arith, c .before .before .push-run .ensures .1))
+loop-again c = let l = c .before .before .before .before .before .loop in (
+  omega arith,
+  into-more _ _ _ _ _ (l .w) _ _ _ _ (omega arith) (omega arith) (omega arith) (omega arith) (l .inv .1) (c .before .before .push-run .ensures .0),
+  omega (arith, c .before .before .push-run .ensures .1),
+)
 
 same-length : tie.Need-same-length Inv-loop μ-loop
 same-length c = c .before .loop .inv .1 .same-length

@@ -1,64 +1,84 @@
+-- `recovery::recover_column` meets its contract: the column is one part of the buffer, which the solver has, and then it is taken out of the columns before it.
+use native.Mathlib.Omega.{arith}
+use mathlib.Core.Path.{_≡_, refl, sym, ap, subst, _∙_}
+use Prim.Native.Nat.{_+_, _*_}
+use native.Mathlib.Nat.{mul-le-mul}
+use Rattle.solving.specs.System.{sequence}
+use Rattle.solving.specs.Solver.{shiftIn, Solvable}
+use Rattle.store.proofs.Charted.{solvable}
+use Rattle.store.proofs.SolveColumn.{column-fits, lent-size, lent-length, additions-bound, solved-as, middle-length, column-done}
 use borrow.Author.Needs.{needs}
 use Rattle.store.proofs.recovery.recover_column.Statement.{statement}
 use Rattle.store.proofs.recovery.recover_column.Tie as tie
-use Rattle.store.proofs.recovery.recover_column.Reads as reads
-use Rattle.store.proofs.recovery.recover_column.Lts as lts
-use Rattle.solving.proofs.solve.Reads as solve-reads
-use Rattle.store.proofs.entries.sequences_before.Reads as sequences-before-reads
-use Rattle.store.proofs.recovery.push_column.Reads as push-column-reads
-use Rattle.store.proofs.windows.least.Reads as least-reads
 
--- src/recovery.rt:71:9
 least-requires : tie.Need-least-requires
 least-requires c κs = search needs
 
--- src/recovery.rt:72:17
 sequences-before-requires : tie.Need-sequences-before-requires
 sequences-before-requires c κs = search needs
 
--- src/recovery.rt:72:17
 mul-start : tie.Need-mul-start
-mul-start c = ?
+mul-start c = let s = c .before .before .before .before .before .before in
+    omega (arith, mul-le-mul {n₁ = c .before .sequences-before .result} {m₁ = s .args .g .l} {n₂ = 360} {m₂ = 4096} (omega arith) (omega arith))
 
--- src/recovery.rt:73:23
 mul-end : tie.Need-mul-end
-mul-end c = ?
+mul-end c = let s = c .before .before .before .before .before .before .before in
+    omega (arith, mul-le-mul {n₁ = c .before .before .sequences-before .result} {m₁ = s .args .g .l} {n₂ = 360} {m₂ = 4096} (omega arith) (omega arith), mul-le-mul {n₁ = c .before .before .before .least .result} {m₁ = s .args .g .l} {n₂ = 16} {m₂ = 4096} (omega (arith, c .before .before .before .least .ensures)) (omega arith))
 
--- src/recovery.rt:73:15
 add-end : tie.Need-add-end
-add-end c = ?
+add-end c = let s = c .before .before .before .before .before .before .before in
+    omega (arith, mul-le-mul {n₁ = c .before .before .sequences-before .result} {m₁ = s .args .g .l} {n₂ = 360} {m₂ = 4096} (omega arith) (omega arith), mul-le-mul {n₁ = c .before .before .before .least .result} {m₁ = s .args .g .l} {n₂ = 16} {m₂ = 4096} (omega (arith, c .before .before .before .least .ensures)) (omega arith))
 
--- src/recovery.rt:74:33
 sub-solve : tie.Need-sub-solve
 sub-solve c = search needs
 
--- src/recovery.rt:74:33
 part-solve-start : tie.Need-part-solve-start
 part-solve-start c = search needs
 
--- src/recovery.rt:74:33
 part-solve-end : tie.Need-part-solve-end
-part-solve-end c = ?
+part-solve-end c = let s = c .before .before .before .before .before .before .before in
+    omega (arith, column-fits (s .args .g) (s .args .ids .now) (s .args .buffer .now) (s .pre .0) (s .args .u) (omega arith) (omega arith), (ap (λ m. m * s .args .g .l) (c .before .before .sequences-before .ensures .0)), (ap (λ m. c .before .before .sequences-before .result * s .args .g .l + m * s .args .g .l) (c .before .before .before .least .ensures)))
 
--- src/recovery.rt:74:9
 solve-requires : tie.Need-solve-requires
-solve-requires c κs = ?
+solve-requires c κs = let s = c .before .before .before .before .before .before .before .before in (
+  subst (λ m. Solvable m (s .args .g .l) (s .args .rows .now)) (sym (c .before .before .before .before .least .ensures))
+      (solvable _ _ (s .pre .1) _ _ (s .pre .0 .chosen) (omega arith) _ (omega arith) (omega arith) (s .args .g .l) (omega arith) (omega arith)),
+  lent-length (s .args .g) (s .args .ids .now) (s .args .buffer .now) (s .pre .0) (s .args .u) (omega arith) (omega arith) _ _ (ap (λ m. m * s .args .g .l) (c .before .before .before .sequences-before .ensures .0)) (ap (λ m. c .before .before .before .sequences-before .result * s .args .g .l + m * s .args .g .l) (c .before .before .before .before .least .ensures)) ∙ ap (λ m. m * s .args .g .l) (sym (c .before .before .before .before .least .ensures)),
+)
 
--- src/recovery.rt:75:14
 push-column-requires : tie.Need-push-column-requires
-push-column-requires c κs = ?
+push-column-requires c κs =
+    let s = c .before .before .before .before .before .before .before .before .before .before .before .before in
+    let v = c .before .before .before .solve in (
+      record {
+        chosen = s .pre .0 .chosen;
+        long =
+            middle-length (s .args .g) (s .args .ids .now) (s .args .buffer .now) (s .pre .0) (s .args .u) (omega arith) (omega arith) _ _ (ap (λ m. m * s .args .g .l) (c .before .before .before .before .before .before .before .sequences-before .ensures .0)) (ap (λ m. c .before .before .before .before .before .before .before .sequences-before .result * s .args .g .l + m * s .args .g .l) (c .before .before .before .before .before .before .before .before .least .ensures)) (v .last .0) (v .ensures .same-length ∙ lent-size (s .args .g) (s .args .ids .now) (s .args .buffer .now) (s .pre .0) (s .args .u) (omega arith) (omega arith) _ _ (ap (λ m. m * s .args .g .l) (c .before .before .before .before .before .before .before .sequences-before .ensures .0)) (ap (λ m. c .before .before .before .before .before .before .before .sequences-before .result * s .args .g .l + m * s .args .g .l) (c .before .before .before .before .before .before .before .before .least .ensures))) ∙ s .pre .0 .long;
+      },
+      omega arith,
+      omega arith,
+    )
 
--- src/recovery.rt:75:5
 add-result : tie.Need-add-result
-add-result c = ?
+add-result c = let s = c .before .before .before .before .before .before .before .before .before .before .before .before .before .before .before in
+    let v = c .before .before .before .before .before .before .solve in
+    omega (
+      arith,
+      v .ensures .counted,
+      additions-bound (c .before .before .before .before .before .before .before .before .before .before .before .least .result) (s .args .g .l) (shiftIn (s .args .rows .now)) (sequence 0 (v .last .0) (s .args .g .l)),
+      c .before .before .push-column .ensures .1,
+      mul-le-mul {n₁ = c .before .before .before .before .before .before .before .before .before .before .before .least .result} {m₁ = s .args .g .l * c .before .before .before .before .before .before .before .before .before .before .before .least .result} {n₂ = 16} {m₂ = 65536} (omega (arith, c .before .before .before .before .before .before .before .before .before .before .before .least .ensures)) (mul-le-mul {n₁ = s .args .g .l} {m₁ = c .before .before .before .before .before .before .before .before .before .before .before .least .result} {n₂ = 4096} {m₂ = 16} (omega arith) (omega (arith, c .before .before .before .before .before .before .before .before .before .before .before .least .ensures))),
+    )
 
--- src/recovery.rt:67:1
 same-length : tie.Need-same-length
 same-length c = search needs
 
--- src/recovery.rt:67:1
 returns : tie.Need-returns
-returns c = ?
+returns c = let s = c .before .before .before .before .before .before .before .before .before .before .before .before .before .before .before in
+    let v = c .before .before .before .before .before .before .solve in
+    column-done (s .args .g) (s .args .ids .now) (s .args .buffer .now) (s .pre .0) (s .args .u) (omega arith) (omega arith) _ _ (ap (λ m. m * s .args .g .l) (c .before .before .before .before .before .before .before .before .before .before .sequences-before .ensures .0)) (ap (λ m. c .before .before .before .before .before .before .before .before .before .before .sequences-before .result * s .args .g .l + m * s .args .g .l) (c .before .before .before .before .before .before .before .before .before .before .before .least .ensures)) (v .last .0) (v .ensures .same-length ∙ lent-size (s .args .g) (s .args .ids .now) (s .args .buffer .now) (s .pre .0) (s .args .u) (omega arith) (omega arith) _ _ (ap (λ m. m * s .args .g .l) (c .before .before .before .before .before .before .before .before .before .before .sequences-before .ensures .0)) (ap (λ m. c .before .before .before .before .before .before .before .before .before .before .sequences-before .result * s .args .g .l + m * s .args .g .l) (c .before .before .before .before .before .before .before .before .before .before .before .least .ensures))) (s .args .rows .now) _ (v .result) _ (s .pre .1)
+    (solved-as _ _ _ _ _ _ _ (c .before .before .before .before .before .before .before .before .before .before .before .least .ensures) (v .ensures))
+    (c .before .before .push-column .ensures .0) (c .before .before .push-column .ensures .1)
 
 pub recover-column-spec : {M : Type 1} → statement M
 recover-column-spec =
