@@ -3,3 +3,4 @@ pub mod Refusals
 pub mod InRange
 pub mod Ids
 pub mod Sizes
+pub mod Outcomes

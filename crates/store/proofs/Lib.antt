@@ -20,3 +20,6 @@ pub mod Pushing
 pub mod SolveColumn
 pub mod Stages
 pub mod RecoverCalls
+pub mod Theorems
+pub mod Outcomes
+pub mod CostSums

@@ -126,7 +126,7 @@ module _ {A : Type 0} (𝓐 : Adding A) (g : Group) (file : List A) where
   unfolding packets
   length-packets i = length-joined (g .d) (packet 𝓐 g file i) (packetStart g i) (packets-start i) ∙ packet-last g i
 
-  packets-at :
+  pub packets-at :
       (i j q : ℕ) → 1 ≤ j → j ≤ g .d → q < packetLength g i j
       → getD (packets 𝓐 g file i) (packetStart g i j + q) (𝓐 .none) ≡ getD (packet 𝓐 g file i j) q (𝓐 .none)
   unfolding packets

@@ -26,7 +26,7 @@ use Rattle.store.proofs.Product.{corner, free}
 use Rattle.store.proofs.Reading.{shifts, later, piece-apart, later-corner, later-entries}
 
 -- a sum from its first term on
-sum-first : {A : Type 0} (𝓐 : Adding A) (n : ℕ) (f : ℕ → A) → sum 𝓐 (1 + n) f ≡ 𝓐 .plus (f 1) (sum 𝓐 n (λ i. f (1 + i)))
+pub sum-first : {A : Type 0} (𝓐 : Adding A) (n : ℕ) (f : ℕ → A) → sum 𝓐 (1 + n) f ≡ 𝓐 .plus (f 1) (sum 𝓐 n (λ i. f (1 + i)))
 unfolding sum
 sum-first 𝓐 n f = sum-split 𝓐 1 n f ∙ ap (λ x. 𝓐 .plus x (sum 𝓐 n (λ i. f (1 + i)))) (none-plus 𝓐 (f 1))
 

@@ -1,0 +1,48 @@
+-- An answer is fixed by its number and its value.
+use mathlib.Core.Path.{_≡_, refl, sym, ap, _∙_}
+use Prim.Native.Nat.{ℕ, zero, suc}
+use native.Mathlib.Omega.{arith}
+use Rattle.group.specs.declared.Refusal.{Refusal}
+use Rattle.group.specs.declared.Refusal.the-variants.{Numbers, Length, Ids, Order, Input, Output, Unfinished, Malformed}
+use Rattle.group.specs.declared.Answer.{Answer}
+use Rattle.group.specs.declared.Answer.the-variants.{Value, Refused}
+use Rattle.group.specs.Answers.{refusalNumber, numberOf, valueOf, ifFine, Answers}
+use Rattle.group.proofs.Refusals.{numbered}
+
+-- the refusal of a number
+named : ℕ → Refusal
+named zero = Numbers
+named (suc zero) = Numbers
+named (suc (suc zero)) = Length
+named (suc (suc (suc zero))) = Ids
+named (suc (suc (suc (suc zero)))) = Order
+named (suc (suc (suc (suc (suc zero))))) = Input
+named (suc (suc (suc (suc (suc (suc zero)))))) = Output
+named (suc (suc (suc (suc (suc (suc (suc zero))))))) = Unfinished
+named (suc (suc (suc (suc (suc (suc (suc (suc n)))))))) = Malformed
+
+named-number : (r : Refusal) → named (refusalNumber r) ≡ r
+unfolding named
+named-number Numbers = refl
+named-number Length = refl
+named-number Ids = refl
+named-number Order = refl
+named-number Input = refl
+named-number Output = refl
+named-number Unfinished = refl
+named-number Malformed = refl
+
+-- no two refusals have one number
+pub refusal-once : (a b : Refusal) → refusalNumber a ≡ refusalNumber b → a ≡ b
+refusal-once a b e = sym (named-number a) ∙ ap named e ∙ named-number b
+
+-- so two answers with one number and one value are one
+pub same-answer : (r s : Answer) → numberOf r ≡ numberOf s → valueOf r ≡ valueOf s → r ≡ s
+same-answer (Value v) (Value w) e h = ap Value h
+same-answer (Value v) (Refused b) e h = absurd (numbered b (sym e))
+same-answer (Refused a) (Value w) e h = absurd (numbered a e)
+same-answer (Refused a) (Refused b) e h = ap Refused (refusal-once a b e)
+
+pub answer-once : (r s : Answer) (q v w : ℕ) → Answers r q v → Answers s q w → v ≡ w → r ≡ s
+answer-once r s q v w a b e =
+    same-answer r s (a .number ∙ sym (b .number)) (a .valued ∙ ap (λ m. ifFine q m 0) e ∙ sym (b .valued))

@@ -1,0 +1,68 @@
+-- What each public call's contract says allows one answer and one content of each buffer.
+use mathlib.Core.Path.{_≡_, refl, sym, ap, ap₂, subst, _∙_}
+use mathlib.Core.List.{List}
+use Prim.Native.Nat.{ℕ, zero, suc, _*_}
+use native.Mathlib.Omega.{arith}
+use lib.Dec.{eqb}
+use lib.ListN.{length}
+use borrow.Author.Tests.{eqb-true}
+use Rattle.letters.specs.Algebra.{bytes, xors}
+use Rattle.group.specs.declared.Group.{Group}
+use Rattle.group.specs.declared.Answer.{Answer}
+use Rattle.group.specs.Answers.{unless, first, ifFine}
+use Rattle.group.specs.Lengths.{fileLetters, nodeLetters, repairLetters}
+use Rattle.group.proofs.Outcomes.{answer-once}
+use Rattle.group.proofs.Refusals.{first-none, unless-none}
+use Rattle.store.specs.Pieces.{reading}
+use Rattle.store.specs.Repair.{equations}
+use Rattle.store.specs.Counts.{recoveryCount, repairCount}
+use Rattle.store.specs.Calls.{Called, readersRefusal, recoverRefusal, Recovered, helpersRefusal, repairRefusal, Repaired}
+use Rattle.store.proofs.ChosenIds.{helpers-of}
+use Rattle.store.proofs.RecoverCalls.{readers-of}
+use Rattle.store.proofs.Rebuilt.{one-repair, same-letters}
+use Rattle.store.proofs.Theorems.{reading-once}
+
+-- encode and help
+pub called-once :
+    (q v : ℕ) (right before after after′ : List ℕ) (r r′ : Answer) → Called q v right before after r → Called q v right before after′ r′
+    → (after ≡ after′) × (r ≡ r′)
+called-once q v right before after after′ r r′ c c′ =
+    (c .holds ∙ sym (c′ .holds), answer-once r r′ q v v (c .answer) (c′ .answer) refl)
+
+-- what a buffer may hold at exit, by whether the call was refused
+by-refusal :
+    (q : ℕ) (f : List ℕ → List ℕ) (before after after′ : List ℕ) → ifFine q (f after) after ≡ before → ifFine q (f after′) after′ ≡ before
+    → (q ≡ 0 → f after ≡ f after′ → after ≡ after′) → after ≡ after′
+by-refusal zero f before after after′ e e′ once = once refl (e ∙ sym e′)
+by-refusal (suc q) f before after after′ e e′ once = e ∙ sym e′
+
+pub recovered-once :
+    (g : Group) (ids before after after′ : List ℕ) (r r′ : Answer) → Recovered g ids before after r → Recovered g ids before after′ r′
+    → (after ≡ after′) × (r ≡ r′)
+unfolding recoverRefusal
+recovered-once g ids before after after′ r r′ c c′ =
+    (same, answer-once r r′ (recoverRefusal g ids (length before)) (recoveryCount g ids after) (recoveryCount g ids after′) (c .answer) (c′ .answer) (ap (recoveryCount g ids) same))
+  where
+    same : after ≡ after′
+    same =
+        by-refusal (recoverRefusal g ids (length before)) (λ file. reading xors g file ids) before after after′ (c .holds) (c′ .holds)
+        (λ z e.
+        let w = first-none (readersRefusal g ids) (unless (eqb (length before) (fileLetters g)) 5) z in
+        let long = eqb-true (length before) (fileLetters g) (unless-none (eqb (length before) (fileLetters g)) 5 (λ q. omega arith) (w .1)) in
+        reading-once bytes g ids (readers-of g ids (w .0) .chosen) after after′ (c .same-length ∙ long) (c′ .same-length ∙ long) e)
+
+pub repaired-once :
+    (g : Group) (lost : ℕ) (helpers before after after′ : List ℕ) (r r′ : Answer) → Repaired g lost helpers before after r
+    → Repaired g lost helpers before after′ r′ → (after ≡ after′) × (r ≡ r′)
+unfolding repairRefusal
+repaired-once g lost helpers before after after′ r r′ c c′ =
+    (same, answer-once r r′ (repairRefusal g lost helpers (length before)) (repairCount g lost helpers after) (repairCount g lost helpers after′) (c .answer) (c′ .answer) (ap (repairCount g lost helpers) same))
+  where
+    same : after ≡ after′
+    same =
+        by-refusal (repairRefusal g lost helpers (length before)) (equations xors g lost helpers) before after after′ (c .holds) (c′ .holds)
+        (λ z e.
+        let w = first-none (helpersRefusal g lost helpers) (unless (eqb (length before) (nodeLetters g lost)) 5) z in
+        let long = eqb-true (length before) (nodeLetters g lost) (unless-none (eqb (length before) (nodeLetters g lost)) 5 (λ q. omega arith) (w .1)) in
+        one-repair bytes g lost helpers (helpers-of g lost helpers (w .0) .chosen) after after′ (c .same-length ∙ long ∙ same-letters g lost)
+        (c′ .same-length ∙ long ∙ same-letters g lost) e)
