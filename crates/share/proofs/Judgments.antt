@@ -1,0 +1,240 @@
+-- Of any bytes exactly one holds: they are a share, the beginning of one, or one of them is the first that can't stand.
+-- A share's head tells its length, so no share is the beginning of another; and its bytes tell head and letters.
+use mathlib.Core.Path.{_≡_, refl, sym, ap, _∙_}
+use mathlib.Core.Bool.{Bool, true, false}
+use mathlib.Core.List.{List, [], _∷_, _++_, append-nil, append-assoc}
+use mathlib.Core.Logic.{_⊎_, inl, inr, ⊎-elim}
+use Prim.Native.Nat.{ℕ, zero, suc, _+_, _*_, _/_, _%_, _≤_, _<_}
+use native.Mathlib.Omega.{arith}
+use lib.ListN.{length, getD, take, drop, length-append, length-drop, take-append-drop}
+use lib.Seq.{ext-getD, getD-take, length-take-le}
+use Rattle.letters.proofs.Cases.{le-or-lt, eq-or-ne}
+use Rattle.share.specs.declared.Head.{Head}
+use Rattle.share.specs.Share.{ShareOf, Bytes}
+use Rattle.share.specs.Judgment.{IsShare, IsBeginning, IsNeither, CanStand, Offends}
+use Rattle.share.specs.Places.{totalIn, headIn, totalOf, sizeFor, stands}
+use Rattle.share.proofs.LaidOut.{in-blocks, share-length}
+use Rattle.share.proofs.Heads.{head-of, total-of}
+use Rattle.share.proofs.Accepted.{Accepted, accepted-before, share-accepted, same-stands, head-with, ownLetters}
+use Rattle.share.proofs.Completing.{can-stand, whole-share}
+
+-- a share's bytes have its head
+pub share-head : (h : Head) (letters xs : List ℕ) → ShareOf h letters xs → headIn xs ≡ h
+share-head h letters xs s = ap headIn (s .is) ∙ head-of h letters (s .node) (s .batch)
+
+pub share-total : (h : Head) (letters xs : List ℕ) → ShareOf h letters xs → totalIn xs ≡ length letters
+share-total h letters xs s = ap totalOf (share-head h letters xs s) ∙ total-of h (s .node) ∙ sym (s .count)
+
+-- and they are as many as it says
+pub share-size : (xs : List ℕ) → IsShare xs → length xs ≡ sizeFor (totalIn xs)
+share-size xs s =
+    ap length (s .2 .is) ∙ share-length (s .0) (s .1) ∙ ap sizeFor (sym (share-total (s .0) (s .1) xs (s .2)))
+
+-- so a share with bytes after it is no share, unless they are none
+pub share-alone : (xs ys : List ℕ) → IsShare xs → IsShare (xs ++ ys) → length ys ≡ 0
+share-alone xs ys s t =
+    let long : 11 ≤ length xs = omega (arith, share-size xs s) in
+    let e : totalOf (headIn (xs ++ ys)) ≡ totalIn xs = ap totalOf (head-with xs ys long) in
+    omega (arith, share-size xs s, share-size (xs ++ ys) t, length-append xs ys, ap sizeFor e)
+
+-- A share with anything after it is neither a share nor the beginning of one.
+pub share-then-more : (xs ys : List ℕ) → IsShare xs → 1 ≤ length ys → IsNeither (xs ++ ys)
+share-then-more xs ys s some = (
+  λ t. omega (arith, share-alone xs ys s t),
+  λ b. omega (arith, share-alone xs (ys ++ b .0) s (rw append-assoc at (b .2)), length-append ys (b .0)),
+)
+
+-- A share cut anywhere is the beginning of one, and never a share.
+pub cut-is-beginning : (xs : List ℕ) (q : ℕ) → IsShare xs → q < length xs → IsBeginning (take q xs)
+cut-is-beginning xs q s h = (drop q xs, simp length-drop (omega arith), rw take-append-drop s)
+
+pub cut-is-no-share : (xs : List ℕ) (q : ℕ) → IsShare xs → q < length xs → IsShare (take q xs) → ⊥
+cut-is-no-share xs q s h t =
+    omega (arith, share-alone (take q xs) (drop q xs) t (rw take-append-drop s), length-drop q xs)
+
+-- Two shares of the same bytes have the same head and the same letters.
+pub one-head : (h h′ : Head) (letters letters′ xs : List ℕ) → ShareOf h letters xs → ShareOf h′ letters′ xs → h ≡ h′
+one-head h h′ letters letters′ xs s s′ = sym (share-head h letters xs s) ∙ share-head h′ letters′ xs s′
+
+-- the letter at index i is the byte at an offset of a block
+pub letter-byte :
+    (h : Head) (letters xs : List ℕ) → ShareOf h letters xs → (i : ℕ) → i < length letters
+    → getD letters i 0 ≡ getD xs (11 + (i / 64 * 65 + suc (i % 64))) 0
+letter-byte h letters xs s i l =
+    ap (λ j. getD letters j 0) (index i)
+    ∙ sym (in-blocks h letters (i / 64) (suc (i % 64)) (omega arith) (omega arith))
+    ∙ ap (λ ys. getD ys (11 + (i / 64 * 65 + suc (i % 64))) 0) (sym (s .is))
+  where
+    index : (i : ℕ) → i ≡ i / 64 * 64 + i % 64
+    index i = omega arith
+
+pub one-letters :
+    (h h′ : Head) (letters letters′ xs : List ℕ) → ShareOf h letters xs → ShareOf h′ letters′ xs → letters ≡ letters′
+one-letters h h′ letters letters′ xs s s′ =
+    ext-getD 0 letters letters′ same
+    (λ i l. letter-byte h letters xs s i l ∙ sym (letter-byte h′ letters′ xs s′ i (omega (arith, same))))
+  where
+    same : length letters ≡ length letters′
+    same = sym (share-total h letters xs s) ∙ share-total h′ letters′ xs s′
+
+-- Bytes that can stand are those whose every byte stands.
+pub accepted-if : (xs : List ℕ) → CanStand xs → Accepted xs
+accepted-if xs s = accepted-before xs (s .0) (share-accepted (s .1 .0) (s .1 .1) (xs ++ s .0) (s .1 .2))
+
+-- they are a share where they are as many as their head says, and else the beginning of one
+pub is-share : (xs : List ℕ) → Bytes xs → Accepted xs → length xs ≡ sizeFor (totalIn xs) → IsShare xs
+is-share xs bytes a e = (headIn xs, ownLetters xs, whole-share xs bytes a e)
+
+pub is-beginning : (xs : List ℕ) → Bytes xs → Accepted xs → (length xs ≡ sizeFor (totalIn xs) → ⊥) → IsBeginning xs
+is-beginning xs bytes a n =
+    let s = can-stand xs bytes a in
+    ⊎-elim
+    (λ none. absurd (n (share-size xs (rw (all (s .0) none) at (s .1)))))
+    (λ some. (s .0, some, s .1))
+    (le-or-lt (length (s .0)) 0)
+  where
+    all : (ys : List ℕ) → length ys ≤ 0 → xs ++ ys ≡ xs
+    all [] h = append-nil xs
+    all (y ∷ ys) h = absurd (omega arith)
+
+-- The bytes before index q stand, and the one at q doesn't: it is the first that can't stand there.
+pub record FirstWrong (xs : List ℕ) (q : ℕ) : Type 0 where
+  pub before : (p : ℕ) → p < q → stands xs p ≡ true
+  pub wrong : stands xs q ≡ false
+
+stands-take : (xs : List ℕ) (q p : ℕ) → p < q → stands (take q xs) p ≡ stands xs p
+stands-take xs q p h = same-stands (take q xs) xs p (λ i l. getD-take q xs i 0 (omega arith))
+
+accepted-take : (xs : List ℕ) (q : ℕ) → q ≤ length xs → ((p : ℕ) → p < q → stands xs p ≡ true) → Accepted (take q xs)
+accepted-take xs q h a p l = let within : p < q = omega (arith, length-take-le q xs h) in stands-take xs q p within ∙ a p within
+
+pub stands-before : (xs : List ℕ) (q : ℕ) → q ≤ length xs → CanStand (take q xs) → (p : ℕ) → p < q → stands xs p ≡ true
+stands-before xs q h s p l = sym (stands-take xs q p l) ∙ accepted-if (take q xs) s p (omega (arith, length-take-le q xs h))
+
+bytes-take : (xs : List ℕ) (q : ℕ) → q ≤ length xs → Bytes xs → Bytes (take q xs)
+bytes-take xs q h b =
+    record {
+      below =
+          λ i l.
+          let within : i < q = omega (arith, length-take-le q xs h) in
+          rw (getD-take q xs i 0 within) (b .below i (omega arith));
+    }
+
+pub not-both : (b : Bool) → b ≡ true → b ≡ false → ⊥
+not-both b t f = let z : _≡_ {A = ℕ} 0 1 = cc in omega arith
+
+pub offends-if : (xs : List ℕ) (q : ℕ) → Bytes xs → q < length xs → FirstWrong xs q → Offends xs q
+offends-if xs q bytes h f =
+    record {
+      within = h;
+      before = can-stand (take q xs) (bytes-take xs q (omega arith) bytes) (accepted-take xs q (omega arith) (f .before));
+      not-with =
+          λ s.
+          not-both (stands xs q)
+          (stands-before xs (q + 1) (omega arith) s q (omega arith))
+          (f .wrong);
+    }
+
+pub wrong-if : (xs : List ℕ) (q : ℕ) → Bytes xs → Offends xs q → FirstWrong xs q
+wrong-if xs q bytes o =
+    record {
+      before = before;
+      wrong = not-true (stands xs q) (λ t. o .not-with (can-stand (take (q + 1) xs) (bytes-take xs (q + 1) room bytes) (accepted-take xs (q + 1) room (with t))));
+    }
+  where
+    room : q + 1 ≤ length xs
+    room = omega (arith, o .within)
+
+    before : (p : ℕ) → p < q → stands xs p ≡ true
+    before = stands-before xs q (omega arith) (o .before)
+
+    with : stands xs q ≡ true → (p : ℕ) → p < q + 1 → stands xs p ≡ true
+    with t p l = ⊎-elim (λ at. let e : p ≡ q = omega arith in ap (stands xs) e ∙ t) (before p) (le-or-lt q p)
+
+    not-true : (b : Bool) → (b ≡ true → ⊥) → b ≡ false
+    not-true true n = absurd (n refl)
+    not-true false n = refl
+
+-- all of the first m bytes stand, or one of them is the first that doesn't
+first-wrong :
+    (xs : List ℕ) (m : ℕ) → ((p : ℕ) → p < m → stands xs p ≡ true) ⊎ ((q : ℕ) × (q < m) × FirstWrong xs q)
+first-wrong xs zero = inl (λ p h. absurd (omega arith))
+first-wrong xs (suc m) =
+    ⊎-elim (λ all. by (stands xs m) refl all) (λ w. inr (w .0, omega (arith, w .1), w .2)) (first-wrong xs m)
+  where
+    by :
+        (b : Bool) → stands xs m ≡ b → ((p : ℕ) → p < m → stands xs p ≡ true)
+        → ((p : ℕ) → p < suc m → stands xs p ≡ true) ⊎ ((q : ℕ) × (q < suc m) × FirstWrong xs q)
+    by true e all =
+        inl (λ p h. ⊎-elim (λ at. let s : p ≡ m = omega arith in ap (stands xs) s ∙ e) (all p) (le-or-lt m p))
+    by false e all = inr (m, omega arith, record { before = all; wrong = e })
+
+-- No bytes are the beginning of a share.
+pub nothing-begins : IsBeginning []
+nothing-begins =
+    is-beginning [] (record { below = λ i h. absurd (omega arith) }) (λ p h. absurd (omega arith)) (λ e. omega arith)
+
+pub nothing-stands : CanStand []
+nothing-stands = (nothing-begins .0, nothing-begins .2)
+
+-- Bytes can stand exactly if they are a share or the beginning of one.
+pub stands-either : (xs : List ℕ) → Bytes xs → CanStand xs → IsShare xs ⊎ IsBeginning xs
+stands-either xs bytes s =
+    let a = accepted-if xs s in
+    ⊎-elim (λ whole. inl (is-share xs bytes a whole)) (λ more. inr (is-beginning xs bytes a more))
+    (eq-or-ne (length xs) (sizeFor (totalIn xs)))
+
+pub either-stands : (xs : List ℕ) → IsShare xs ⊎ IsBeginning xs → CanStand xs
+either-stands xs w = ⊎-elim (λ s. ([], rw append-nil s)) (λ b. (b .0, b .2)) w
+
+-- One of the three holds of any bytes,
+pub one-of-three : (xs : List ℕ) → Bytes xs → IsShare xs ⊎ (IsBeginning xs ⊎ ((q : ℕ) × Offends xs q))
+one-of-three xs bytes =
+    ⊎-elim
+    (λ all.
+    ⊎-elim (λ whole. inl (is-share xs bytes all whole)) (λ more. inr (inl (is-beginning xs bytes all more)))
+    (eq-or-ne (length xs) (sizeFor (totalIn xs))))
+    (λ w. inr (inr (w .0, offends-if xs (w .0) bytes (w .1) (w .2))))
+    (first-wrong xs (length xs))
+
+-- and no two:
+pub not-share-and-beginning : (xs : List ℕ) → IsShare xs → IsBeginning xs → ⊥
+not-share-and-beginning xs s b = omega (arith, share-alone xs (b .0) s (b .2), b .1)
+
+-- bytes of which one offends can't stand,
+offends-not-stand : (xs : List ℕ) (q : ℕ) → Offends xs q → CanStand xs → ⊥
+offends-not-stand xs q o s =
+    o .not-with (drop (q + 1) xs ++ s .0, rw (sym (append-assoc (take (q + 1) xs) (drop (q + 1) xs) (s .0)), take-append-drop) (s .1))
+
+-- so they are neither
+pub offends-neither : (xs : List ℕ) (q : ℕ) → Offends xs q → IsNeither xs
+offends-neither xs q o =
+    (λ s. offends-not-stand xs q o (either-stands xs (inl s)), λ b. offends-not-stand xs q o (either-stands xs (inr b)))
+
+-- and of bytes that are neither, one offends, and one alone
+pub neither-offends : (xs : List ℕ) → Bytes xs → IsNeither xs → (q : ℕ) × Offends xs q
+neither-offends xs bytes n =
+    ⊎-elim (λ s. absurd (n .0 s)) (λ w. ⊎-elim (λ b. absurd (n .1 b)) (λ o. o) w) (one-of-three xs bytes)
+
+pub one-place : (xs : List ℕ) (q q′ : ℕ) → Bytes xs → Offends xs q → Offends xs q′ → q ≡ q′
+one-place xs q q′ bytes o o′ =
+    ⊎-elim (λ le. ⊎-elim (λ ge. omega arith) (λ lt. absurd (two q q′ o o′ lt)) (le-or-lt q′ q)) (λ lt. absurd (two q′ q o′ o lt)) (le-or-lt q q′)
+  where
+    two : (q q′ : ℕ) → Offends xs q → Offends xs q′ → q < q′ → ⊥
+    two q q′ o o′ lt = not-both (stands xs q) (wrong-if xs q′ bytes o′ .before q lt) (wrong-if xs q bytes o .wrong)
+
+-- Exactly one of the three holds of any bytes, and at one place.
+pub record ExactlyOne (xs : List ℕ) : Type 0 where
+  pub one : IsShare xs ⊎ (IsBeginning xs ⊎ ((q : ℕ) × Offends xs q))
+  pub not-first-two : IsShare xs → IsBeginning xs → ⊥
+  pub not-with-third : (q : ℕ) → Offends xs q → IsNeither xs
+  pub place : (q q′ : ℕ) → Offends xs q → Offends xs q′ → q ≡ q′
+
+pub exactly-one : (xs : List ℕ) → Bytes xs → ExactlyOne xs
+exactly-one xs bytes =
+    record {
+      one = one-of-three xs bytes;
+      not-first-two = not-share-and-beginning xs;
+      not-with-third = offends-neither xs;
+      place = λ q q′. one-place xs q q′ bytes;
+    }

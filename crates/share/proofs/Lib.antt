@@ -1,0 +1,15 @@
+-- The laws of shares.
+pub mod LaidOut
+pub mod Heads
+pub mod Places
+pub mod Standing
+pub mod Accepted
+pub mod Completing
+pub mod Judgments
+pub mod HeadBytes
+pub mod Walk
+pub mod Verdicts
+pub mod Written
+pub mod Outcomes
+pub mod RoundTrip
+pub mod Desk

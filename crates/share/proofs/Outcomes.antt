@@ -1,0 +1,110 @@
+-- Each call's contract allows one outcome: one judgment holds of any bytes, a share's bytes tell head and letters, and a
+-- number and values tell the answer.
+use mathlib.Core.Path.{_≡_, refl, sym, ap, _∙_}
+use mathlib.Core.List.{List}
+use Prim.Native.Nat.{ℕ, zero, suc}
+use lib.ListN.{length}
+use Rattle.group.specs.declared.Refusal.{Refusal}
+use Rattle.group.specs.declared.Refusal.the-variants.{Numbers, Length, Ids, Order, Input, Output, Unfinished, Malformed}
+use Rattle.group.specs.declared.Answer.{Answer}
+use Rattle.group.specs.Answers.{refusalNumber, numberOf as answerNumber, valueOf}
+use Rattle.group.proofs.Refusals.{numbered}
+use Rattle.share.specs.declared.Head.{Head}
+use Rattle.share.specs.declared.Judgment.{Judgment}
+use Rattle.share.specs.Calls.{numberOf, headOf, Judges, Reads, Writes}
+use Rattle.share.proofs.Judgments.{not-share-and-beginning, one-head, one-letters}
+
+-- a refusal from its number
+refusalOf : ℕ → Refusal
+refusalOf zero = Numbers
+refusalOf (suc zero) = Numbers
+refusalOf (suc (suc zero)) = Length
+refusalOf (suc (suc (suc zero))) = Ids
+refusalOf (suc (suc (suc (suc zero)))) = Order
+refusalOf (suc (suc (suc (suc (suc zero))))) = Input
+refusalOf (suc (suc (suc (suc (suc (suc zero)))))) = Output
+refusalOf (suc (suc (suc (suc (suc (suc (suc zero))))))) = Unfinished
+refusalOf (suc (suc (suc (suc (suc (suc (suc (suc n)))))))) = Malformed
+
+refusal-back : (r : Refusal) → refusalOf (refusalNumber r) ≡ r
+unfolding refusalOf
+refusal-back Numbers = refl
+refusal-back Length = refl
+refusal-back Ids = refl
+refusal-back Order = refl
+refusal-back Input = refl
+refusal-back Output = refl
+refusal-back Unfinished = refl
+refusal-back Malformed = refl
+
+-- a number tells the refusal
+pub one-refusal : (r s : Refusal) → refusalNumber r ≡ refusalNumber s → r ≡ s
+one-refusal r s e = sym (refusal-back r) ∙ ap refusalOf e ∙ refusal-back s
+
+-- number and value tell the answer
+pub one-answer : (r s : Answer) → answerNumber r ≡ answerNumber s → valueOf r ≡ valueOf s → r ≡ s
+one-answer (Answer.Value a) (Answer.Value b) e f = ap Answer.Value f
+one-answer (Answer.Value a) (Answer.Refused b) e f = absurd (numbered b (sym e))
+one-answer (Answer.Refused a) (Answer.Value b) e f = absurd (numbered a e)
+one-answer (Answer.Refused a) (Answer.Refused b) e f = ap Answer.Refused (one-refusal a b e)
+
+-- number and head tell the judgment
+pub one-judgment : (r s : Judgment) → numberOf r ≡ numberOf s → headOf r ≡ headOf s → r ≡ s
+one-judgment (Judgment.Complete a) (Judgment.Complete b) e f = ap Judgment.Complete f
+one-judgment (Judgment.Complete a) (Judgment.Refused b) e f = absurd (numbered b (sym e))
+one-judgment (Judgment.Refused a) (Judgment.Complete b) e f = absurd (numbered a e)
+one-judgment (Judgment.Refused a) (Judgment.Refused b) e f = ap Judgment.Refused (one-refusal a b e)
+
+-- what judging finds
+same-judging :
+    {xs : List ℕ} {n n′ : ℕ} {h h′ : Head} → Judges xs n h → Judges xs n′ h′ → (n ≡ n′) × (h ≡ h′)
+same-judging {xs} (Judges.complete h letters s) (Judges.complete h′ letters′ s′) = (refl, one-head h h′ letters letters′ xs s s′)
+same-judging {xs} (Judges.complete h letters s) (Judges.unfinished b) = absurd (not-share-and-beginning xs (h, letters, s) b)
+same-judging (Judges.complete h letters s) (Judges.malformed m) = absurd (m .0 (h, letters, s))
+same-judging {xs} (Judges.unfinished b) (Judges.complete h letters s) = absurd (not-share-and-beginning xs (h, letters, s) b)
+same-judging (Judges.unfinished b) (Judges.unfinished b′) = (refl, refl)
+same-judging (Judges.unfinished b) (Judges.malformed m) = absurd (m .1 b)
+same-judging (Judges.malformed m) (Judges.complete h letters s) = absurd (m .0 (h, letters, s))
+same-judging (Judges.malformed m) (Judges.unfinished b) = absurd (m .1 b)
+same-judging (Judges.malformed m) (Judges.malformed m′) = (refl, refl)
+
+-- `judge` has one answer.
+pub one-judging : (xs : List ℕ) (r s : Judgment) → Judges xs (numberOf r) (headOf r) → Judges xs (numberOf s) (headOf s) → r ≡ s
+one-judging xs r s p q = let w = same-judging p q in one-judgment r s (w .0) (w .1)
+
+-- what reading finds and leaves
+module _ {xs before : List ℕ} where
+  pub same-reading :
+      {n n′ : ℕ} {h h′ : Head} {after after′ : List ℕ} → Reads xs before n h after → Reads xs before n′ h′ after′
+      → (n ≡ n′) × (h ≡ h′) × (after ≡ after′)
+  same-reading (Reads.complete h l s e) (Reads.complete h′ l′ s′ e′) = (refl, one-head h h′ l l′ xs s s′, one-letters h h′ l l′ xs s s′)
+  same-reading (Reads.complete h l s e) (Reads.unfinished b) = absurd (not-share-and-beginning xs (h, l, s) b)
+  same-reading (Reads.complete h l s e) (Reads.malformed m) = absurd (m .0 (h, l, s))
+  same-reading (Reads.complete h l s e) (Reads.misfit h′ l′ s′ n) = absurd (n (e ∙ ap length (one-letters h h′ l l′ xs s s′)))
+  same-reading (Reads.unfinished b) (Reads.complete h l s e) = absurd (not-share-and-beginning xs (h, l, s) b)
+  same-reading (Reads.unfinished b) (Reads.unfinished b′) = (refl, refl, refl)
+  same-reading (Reads.unfinished b) (Reads.malformed m) = absurd (m .1 b)
+  same-reading (Reads.unfinished b) (Reads.misfit h l s n) = absurd (not-share-and-beginning xs (h, l, s) b)
+  same-reading (Reads.malformed m) (Reads.complete h l s e) = absurd (m .0 (h, l, s))
+  same-reading (Reads.malformed m) (Reads.unfinished b) = absurd (m .1 b)
+  same-reading (Reads.malformed m) (Reads.malformed m′) = (refl, refl, refl)
+  same-reading (Reads.malformed m) (Reads.misfit h l s n) = absurd (m .0 (h, l, s))
+  same-reading (Reads.misfit h l s n) (Reads.complete h′ l′ s′ e) = absurd (n (e ∙ ap length (one-letters h′ h l′ l xs s′ s)))
+  same-reading (Reads.misfit h l s n) (Reads.unfinished b) = absurd (not-share-and-beginning xs (h, l, s) b)
+  same-reading (Reads.misfit h l s n) (Reads.malformed m) = absurd (m .0 (h, l, s))
+  same-reading (Reads.misfit h l s n) (Reads.misfit h′ l′ s′ n′) = (refl, refl, refl)
+
+-- `read` has one answer and leaves one content in the buffer.
+pub one-reading :
+    (xs before after after′ : List ℕ) (r s : Judgment) → Reads xs before (numberOf r) (headOf r) after
+    → Reads xs before (numberOf s) (headOf s) after′ → (r ≡ s) × (after ≡ after′)
+one-reading xs before after after′ r s p q = let w = same-reading p q in (one-judgment r s (w .0) (w .1), w .2)
+
+-- `write` has one answer and leaves one content in the buffer.
+pub one-writing :
+    (h : Head) (letters before after after′ : List ℕ) (n : ℕ) (r s : Answer) → Writes h letters before n r after
+    → Writes h letters before n s after′ → (r ≡ s) × (after ≡ after′)
+one-writing h letters before after after′ n r s p q = (
+  one-answer r s (p .answered .number ∙ sym (q .answered .number)) (p .answered .valued ∙ sym (q .answered .valued)),
+  p .held ∙ sym (q .held),
+)

@@ -1,0 +1,75 @@
+-- Going through a share record by record and byte by byte, as its reader and its writer do.
+use mathlib.Core.Path.{_≡_, refl}
+use mathlib.Core.Logic.{⊎-elim}
+use Prim.Native.Nat.{ℕ, min, _+_, _-_, _≤_, _<_}
+use native.Mathlib.Omega.{arith}
+use Rattle.letters.proofs.Cases.{le-or-lt}
+use Rattle.share.specs.Places.{recordStart, recordSize}
+use Rattle.share.proofs.Places.{next-start, size-some, size-at-most}
+
+-- between two records of so many bytes: where one is left, a record starts there
+pub record Between (count at nth : ℕ) : Type 0 where
+  pub within : at ≤ count
+  pub begins : at < count → at ≡ recordStart nth
+  pub few : nth ≤ at
+
+-- in a record: its bytes are those up to end, or as many of them as there are
+pub record Inside (count nth start end at : ℕ) : Type 0 where
+  pub from : start ≤ at
+  pub until : at ≤ end
+  pub fits : end ≤ count
+  pub size : end ≤ start + recordSize nth
+  pub whole : end < count → end ≡ start + recordSize nth
+  pub begins : start ≡ recordStart nth
+  pub few : nth ≤ start
+  pub some : start < end
+
+pub outset : (count : ℕ) → Between count 0 0
+outset count = record { within = omega arith; begins = λ h. refl; few = omega arith }
+
+pub enter :
+    (count at nth size end : ℕ) → Between count at nth → at < count → size ≡ recordSize nth → end ≡ min (at + size) count
+    → Inside count nth at end at
+enter count at nth size end b h s e =
+    let one = size-some nth in
+    record {
+      from = omega arith;
+      until = omega arith;
+      fits = omega arith;
+      size = omega arith;
+      whole = λ l. omega arith;
+      begins = b .begins h;
+      few = b .few;
+      some = omega arith;
+    }
+
+pub step : (count nth start end at : ℕ) → Inside count nth start end at → at < end → Inside count nth start end (at + 1)
+step count nth start end at w h =
+    record {
+      from = omega arith;
+      until = omega arith;
+      fits = w .fits;
+      size = w .size;
+      whole = w .whole;
+      begins = w .begins;
+      few = w .few;
+      some = w .some;
+    }
+
+pub leave : (count nth start end at : ℕ) → Inside count nth start end at → end ≤ at → Between count at (nth + 1)
+leave count nth start end at w h =
+    record { within = omega arith; begins = λ l. omega (arith, w .whole (omega arith), next-start nth); few = omega arith }
+
+-- the byte at hand stands at an offset of the record
+pub offset-inside : (count nth start end at : ℕ) → Inside count nth start end at → at < end → at - start < recordSize nth
+offset-inside count nth start end at w h = omega arith
+
+pub place-inside : (count nth start end at : ℕ) → Inside count nth start end at → at ≡ recordStart nth + (at - start)
+place-inside count nth start end at w = omega arith
+
+pub offset-small : (count nth start end at : ℕ) → Inside count nth start end at → at < end → at - start < 65
+offset-small count nth start end at w h = omega (arith, size-at-most nth)
+
+-- what holds of every byte passed, and of one more
+pub one-more : {P : ℕ → Type 0} (at : ℕ) → ((p : ℕ) → p < at → P p) → P at → (p : ℕ) → p < at + 1 → P p
+one-more {P} at so-far here p h = ⊎-elim (λ last. let e : p ≡ at = omega arith in rw e here) (so-far p) (le-or-lt at p)

@@ -1,0 +1,67 @@
+// A node's packets as stored bytes: the share, written, judged and read.
+mod reading;
+mod records;
+mod writing;
+
+use group::Answer;
+use group::Check;
+use group::Group;
+use group::Refusal;
+use group::checks;
+ghost use Rattle.share.specs.Calls.{Judges, Reads, Written, numberOf, headOf, headFor};
+
+// A share's head: whose letters it holds, and of which batch.
+pub struct Head {
+    pub group: Group,
+    pub node: usize,
+    pub batch: u32,
+}
+
+// What bytes are found to be. `numberOf` and `headOf` in specs/ give document 01's number and values for each case.
+pub enum Judgment {
+    // A share, and its head.
+    Complete(Head),
+    // 7: the beginning of some share, but not all of it. 8: neither. Reading also has 6.
+    Refused(Refusal),
+}
+
+// Writes a node's packets, one after another, as its share. The answer is how many bytes it has. A refused call leaves `share`
+// as it was. Refusals: 1, 2, 3, 5, 6.
+pub fn write(g: Group, node: usize, batch: u32, packets: &[u8], share: &mut [u8]) -> Answer
+    ensures { λ r. ⌜ Written (headFor g node batch) (now (packets .entry)) (now (share .entry)) r (now (share .exit)) ⌝ }
+{
+    match checks::node(g, node) {
+        Check::Refused(refusal) => Answer::Refused(refusal),
+        Check::Fine => writing::fitting(
+            Head {
+                group: g,
+                node,
+                batch,
+            },
+            packets,
+            share,
+        ),
+    }
+}
+
+// Judges any bytes without copying letters: a share and its head, the beginning of one (7, no bytes included), or
+// neither (8).
+pub fn judge(share: &[u8]) -> Judgment
+    ensures { λ r. ⌜ Judges (now (share .entry)) (numberOf r) (headOf r) ⌝ }
+{
+    let head = reading::head_in(share);
+    let letters = reading::total(head);
+    let at = reading::first_wrong(share, head, letters);
+    reading::judged(head, letters, at, share.len())
+}
+
+// Reads any bytes. Of a share, the answer is the head, and `packets`, which must have exactly T letters, then holds its
+// letters. A refused call leaves `packets` as it was. Refusals: 7 and 8, and then 6.
+pub fn read(share: &[u8], packets: &mut [u8]) -> Judgment
+    ensures { λ r. ⌜ Reads (now (share .entry)) (now (packets .entry)) (numberOf r) (headOf r) (now (packets .exit)) ⌝ }
+{
+    match judge(share) {
+        Judgment::Refused(refusal) => Judgment::Refused(refusal),
+        Judgment::Complete(head) => reading::fitting(share, packets, head),
+    }
+}

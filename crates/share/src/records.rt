@@ -1,0 +1,93 @@
+// The records of a share: their sizes, their kinds and their numbers.
+ghost use mathlib.Core.Path.{_≡_};
+ghost use Prim.Native.Nat.{min, _%_, _≤_, _<_};
+ghost use lib.ListN.{getD};
+ghost use Rattle.group.specs.Lengths.{blocks};
+ghost use Rattle.share.specs.Places.{blockKind, recordSize, sizeFor, letterBound};
+ghost use Rattle.share.specs.Share.{endRecord};
+
+// The kinds of record.
+pub const KIND_HEAD: u8 = 1;
+
+pub const KIND_FULL: u8 = 2;
+
+pub const KIND_LAST: u8 = 3;
+
+pub const KIND_END: u8 = 4;
+
+// The bytes of each record, its kind included, and the letters of a block.
+pub const HEAD_SIZE: usize = 11;
+
+pub const BLOCK_SIZE: usize = 65;
+
+pub const END_SIZE: usize = 5;
+
+pub const BLOCK_LETTERS: usize = 64;
+
+// The lesser of two numbers.
+pub fn lesser(a: usize, b: usize) -> usize
+    ensures { λ r. ⌜ r ≡ min a b ⌝ }
+{
+    if a < b {
+        return a;
+    }
+    b
+}
+
+// The bytes of a record; what is past the end counts with it, since nothing stands there.
+pub fn record_size(nth: usize) -> usize
+    ensures { λ r. ⌜ r ≡ recordSize nth ⌝ }
+{
+    if nth == 0 {
+        return HEAD_SIZE;
+    }
+    BLOCK_SIZE
+}
+
+// The blocks of a share of so many letters.
+pub fn blocks_of(letters: usize) -> usize
+    requires { ⌜ letters ≤ letterBound ⌝ }
+    ensures { λ r. ⌜ r ≡ blocks letters ⌝ }
+{
+    (letters + (BLOCK_LETTERS - 1)) / BLOCK_LETTERS
+}
+
+// The bytes of a share of so many letters.
+pub fn size_for(letters: usize) -> usize
+    requires { ⌜ letters ≤ letterBound ⌝ }
+    ensures { λ r. ⌜ r ≡ sizeFor letters ⌝ }
+{
+    HEAD_SIZE + blocks_of(letters) * BLOCK_SIZE + END_SIZE
+}
+
+// The kind of block r: a full block, or the last one.
+pub fn block_kind(letters: usize, r: usize) -> u8
+    requires { ⌜ r < 65536 ⌝ }
+    ensures { λ k. ⌜ k ≡ blockKind letters r ⌝ }
+{
+    if (r + 1) * BLOCK_LETTERS <= letters {
+        return KIND_FULL;
+    }
+    KIND_LAST
+}
+
+// The last eight bits of a number.
+pub fn low(x: usize) -> u8
+    ensures { λ r. ⌜ r ≡ x % 256 ⌝ }
+{
+    (x % 256) as u8
+}
+
+// The byte at an offset of the end: its kind, then the four bytes of T; past them there is none, and it counts as 0.
+pub fn end_byte(letters: usize, offset: usize) -> u8
+    ensures { λ r. ⌜ r ≡ getD (endRecord letters) offset 0 ⌝ }
+{
+    match offset {
+        0 => KIND_END,
+        1 => low(letters),
+        2 => low(letters / 256),
+        3 => low(letters / 256 / 256),
+        4 => low(letters / 256 / 256 / 256),
+        _ => 0,
+    }
+}
