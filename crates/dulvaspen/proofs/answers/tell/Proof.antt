@@ -1,0 +1,26 @@
+-- `answers::tell` meets its contract: a refusal leaves the lent number as it was.
+use mathlib.Core.Path.{sym, ap, _∙_}
+use Rattle.group.specs.Answers.{numberOf}
+use Rattle.dulvaspen.proofs.Told.{kept}
+use borrow.Author.Needs.{needs}
+use Rattle.dulvaspen.proofs.answers.tell.Statement.{statement}
+use Rattle.dulvaspen.proofs.answers.tell.Tie as tie
+
+enum-known-answer : tie.Need-enum-known-answer
+enum-known-answer c = search needs
+
+enum-known-answer-2 : tie.Need-enum-known-answer-2
+enum-known-answer-2 c = search needs
+
+number-requires : tie.Need-number-requires
+number-requires c κs = search needs
+
+returns : tie.Need-returns
+returns c = search needs
+
+returns-2 : tie.Need-returns-2
+returns-2 c = (c .number .ensures ∙ ap numberOf (sym (c .before .before .answer2 .given .1)), kept _ _ _ (c .before .before .answer2 .given .1))
+
+pub tell-spec : {M : Type 1} → statement M
+tell-spec =
+    tie.close (tie.spec enum-known-answer enum-known-answer-2 number-requires returns returns-2)

@@ -1,0 +1,17 @@
+-- `dulvaspen_repair_letters` meets its contract: it tells the answer of the call behind it.
+use Rattle.dulvaspen.proofs.Told.{tells-of}
+use borrow.Author.Needs.{needs}
+use Rattle.dulvaspen.proofs.lengths.dulvaspen_repair_letters.Statement.{statement}
+use Rattle.dulvaspen.proofs.lengths.dulvaspen_repair_letters.Tie as tie
+
+repair-letters-requires : tie.Need-repair-letters-requires
+repair-letters-requires c κs = search needs
+
+tell-requires : tie.Need-tell-requires
+tell-requires c κs = search needs
+
+returns : tie.Need-returns
+returns c = tells-of _ _ _ _ _ _ (c .before .before .repair-letters .ensures) (c .tell .ensures .0) (c .tell .ensures .1)
+
+pub dulvaspen-repair-letters-spec : {M : Type 1} → statement M
+dulvaspen-repair-letters-spec = tie.close (tie.spec repair-letters-requires tell-requires returns)

@@ -1,0 +1,17 @@
+-- `dulvaspen_share_bytes` meets its contract: it tells the answer of the call behind it.
+use Rattle.dulvaspen.proofs.Told.{tells-of}
+use borrow.Author.Needs.{needs}
+use Rattle.dulvaspen.proofs.lengths.dulvaspen_share_bytes.Statement.{statement}
+use Rattle.dulvaspen.proofs.lengths.dulvaspen_share_bytes.Tie as tie
+
+share-bytes-requires : tie.Need-share-bytes-requires
+share-bytes-requires c κs = search needs
+
+tell-requires : tie.Need-tell-requires
+tell-requires c κs = search needs
+
+returns : tie.Need-returns
+returns c = tells-of _ _ _ _ _ _ (c .before .before .share-bytes .ensures) (c .tell .ensures .0) (c .tell .ensures .1)
+
+pub dulvaspen-share-bytes-spec : {M : Type 1} → statement M
+dulvaspen-share-bytes-spec = tie.close (tie.spec share-bytes-requires tell-requires returns)

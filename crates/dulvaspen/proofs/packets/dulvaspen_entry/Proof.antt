@@ -1,0 +1,17 @@
+-- `dulvaspen_entry` meets its contract: it tells the answer of the call behind it.
+use Rattle.dulvaspen.proofs.Told.{tells-of}
+use borrow.Author.Needs.{needs}
+use Rattle.dulvaspen.proofs.packets.dulvaspen_entry.Statement.{statement}
+use Rattle.dulvaspen.proofs.packets.dulvaspen_entry.Tie as tie
+
+entry-requires : tie.Need-entry-requires
+entry-requires c κs = search needs
+
+tell-requires : tie.Need-tell-requires
+tell-requires c κs = search needs
+
+returns : tie.Need-returns
+returns c = tells-of _ _ _ _ _ _ (c .before .before .entry .ensures) (c .tell .ensures .0) (c .tell .ensures .1)
+
+pub dulvaspen-entry-spec : {M : Type 1} → statement M
+dulvaspen-entry-spec = tie.close (tie.spec entry-requires tell-requires returns)

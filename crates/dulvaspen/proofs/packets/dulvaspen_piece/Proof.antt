@@ -1,0 +1,17 @@
+-- `dulvaspen_piece` meets its contract: it tells the answer of the call behind it.
+use Rattle.dulvaspen.proofs.Told.{tells-of}
+use borrow.Author.Needs.{needs}
+use Rattle.dulvaspen.proofs.packets.dulvaspen_piece.Statement.{statement}
+use Rattle.dulvaspen.proofs.packets.dulvaspen_piece.Tie as tie
+
+piece-start-requires : tie.Need-piece-start-requires
+piece-start-requires c κs = search needs
+
+tell-requires : tie.Need-tell-requires
+tell-requires c κs = search needs
+
+returns : tie.Need-returns
+returns c = tells-of _ _ _ _ _ _ (c .before .before .piece-start .ensures) (c .tell .ensures .0) (c .tell .ensures .1)
+
+pub dulvaspen-piece-spec : {M : Type 1} → statement M
+dulvaspen-piece-spec = tie.close (tie.spec piece-start-requires tell-requires returns)

@@ -1,0 +1,20 @@
+-- `dulvaspen_recover` meets its contract: it tells the answer of the call behind it.
+use Rattle.dulvaspen.proofs.Told.{recovers-of}
+use borrow.Author.Needs.{needs}
+use Rattle.dulvaspen.proofs.packets.dulvaspen_recover.Statement.{statement}
+use Rattle.dulvaspen.proofs.packets.dulvaspen_recover.Tie as tie
+
+recover-requires : tie.Need-recover-requires
+recover-requires c κs = search needs
+
+tell-requires : tie.Need-tell-requires
+tell-requires c κs = search needs
+
+same-length : tie.Need-same-length
+same-length c = search needs
+
+returns : tie.Need-returns
+returns c = recovers-of _ _ _ _ _ _ _ _ (c .before .before .before .before .recover .ensures) (c .tell .ensures .0) (c .tell .ensures .1)
+
+pub dulvaspen-recover-spec : {M : Type 1} → statement M
+dulvaspen-recover-spec = tie.close (tie.spec recover-requires tell-requires same-length returns)

@@ -1,0 +1,3 @@
+-- What the library for C promises.
+pub mod Exports
+pub mod Shares
