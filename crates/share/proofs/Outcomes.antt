@@ -2,58 +2,22 @@
 -- number and values tell the answer.
 use mathlib.Core.Path.{_≡_, refl, sym, ap, _∙_}
 use mathlib.Core.List.{List}
-use Prim.Native.Nat.{ℕ, zero, suc}
+use Prim.Native.Nat.{ℕ}
 use lib.ListN.{length}
-use Rattle.group.specs.declared.Refusal.{Refusal}
-use Rattle.group.specs.declared.Refusal.the-variants.{Numbers, Length, Ids, Order, Input, Output, Unfinished, Malformed}
 use Rattle.group.specs.declared.Answer.{Answer}
-use Rattle.group.specs.Answers.{refusalNumber, numberOf as answerNumber, valueOf}
+use Rattle.group.proofs.Outcomes.{refusal-once, same-answer}
 use Rattle.group.proofs.Refusals.{numbered}
 use Rattle.share.specs.declared.Head.{Head}
 use Rattle.share.specs.declared.Judgment.{Judgment}
 use Rattle.share.specs.Calls.{numberOf, headOf, Judges, Reads, Writes}
 use Rattle.share.proofs.Judgments.{not-share-and-beginning, one-head, one-letters}
 
--- a refusal from its number
-refusalOf : ℕ → Refusal
-refusalOf zero = Numbers
-refusalOf (suc zero) = Numbers
-refusalOf (suc (suc zero)) = Length
-refusalOf (suc (suc (suc zero))) = Ids
-refusalOf (suc (suc (suc (suc zero)))) = Order
-refusalOf (suc (suc (suc (suc (suc zero))))) = Input
-refusalOf (suc (suc (suc (suc (suc (suc zero)))))) = Output
-refusalOf (suc (suc (suc (suc (suc (suc (suc zero))))))) = Unfinished
-refusalOf (suc (suc (suc (suc (suc (suc (suc (suc n)))))))) = Malformed
-
-refusal-back : (r : Refusal) → refusalOf (refusalNumber r) ≡ r
-unfolding refusalOf
-refusal-back Numbers = refl
-refusal-back Length = refl
-refusal-back Ids = refl
-refusal-back Order = refl
-refusal-back Input = refl
-refusal-back Output = refl
-refusal-back Unfinished = refl
-refusal-back Malformed = refl
-
--- a number tells the refusal
-pub one-refusal : (r s : Refusal) → refusalNumber r ≡ refusalNumber s → r ≡ s
-one-refusal r s e = sym (refusal-back r) ∙ ap refusalOf e ∙ refusal-back s
-
--- number and value tell the answer
-pub one-answer : (r s : Answer) → answerNumber r ≡ answerNumber s → valueOf r ≡ valueOf s → r ≡ s
-one-answer (Answer.Value a) (Answer.Value b) e f = ap Answer.Value f
-one-answer (Answer.Value a) (Answer.Refused b) e f = absurd (numbered b (sym e))
-one-answer (Answer.Refused a) (Answer.Value b) e f = absurd (numbered a e)
-one-answer (Answer.Refused a) (Answer.Refused b) e f = ap Answer.Refused (one-refusal a b e)
-
 -- number and head tell the judgment
 pub one-judgment : (r s : Judgment) → numberOf r ≡ numberOf s → headOf r ≡ headOf s → r ≡ s
 one-judgment (Judgment.Complete a) (Judgment.Complete b) e f = ap Judgment.Complete f
 one-judgment (Judgment.Complete a) (Judgment.Refused b) e f = absurd (numbered b (sym e))
 one-judgment (Judgment.Refused a) (Judgment.Complete b) e f = absurd (numbered a e)
-one-judgment (Judgment.Refused a) (Judgment.Refused b) e f = ap Judgment.Refused (one-refusal a b e)
+one-judgment (Judgment.Refused a) (Judgment.Refused b) e f = ap Judgment.Refused (refusal-once a b e)
 
 -- what judging finds
 same-judging :
@@ -105,6 +69,6 @@ pub one-writing :
     (h : Head) (letters before after after′ : List ℕ) (n : ℕ) (r s : Answer) → Writes h letters before n r after
     → Writes h letters before n s after′ → (r ≡ s) × (after ≡ after′)
 one-writing h letters before after after′ n r s p q = (
-  one-answer r s (p .answered .number ∙ sym (q .answered .number)) (p .answered .valued ∙ sym (q .answered .valued)),
+  same-answer r s (p .answered .number ∙ sym (q .answered .number)) (p .answered .valued ∙ sym (q .answered .valued)),
   p .held ∙ sym (q .held),
 )

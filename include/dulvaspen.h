@@ -1,0 +1,112 @@
+/* Dulvaspen: a store of a shift-and-XOR product-matrix regenerating code, proved in Rattle.
+ *
+ * A batch is a file of B*L letters (bytes), B = k*d - k*(k-1)/2. Each of n nodes holds d packets, T letters in all. Any k nodes give the
+ * file back, any d rebuild a lost node exactly.
+ *
+ *   n  nodes, 3 to 16            k, d   2 <= k <= d <= n-1            l  letters in a sequence (L), 1 to 4,096
+ *   ids and nodes count from 1; ranks and columns count from 1
+ *
+ * Every call takes any numbers and any bytes. It returns 0, or the number of the refusal, the lowest that applies:
+ *
+ *   1  n, k or d outside the ranges above
+ *   2  l outside its range
+ *   3  an id outside 1..n, a wrong number of ids, or a rank or column out of range
+ *   4  ids that don't fall strictly, or the lost node among its helpers
+ *   5  a lent input, or the buffer worked on in place, not of the exact length
+ *   6  a lent output not of the exact length
+ *   7  share bytes that are the beginning of some share but not all of it (no bytes included)
+ *   8  share bytes that are neither a share nor the beginning of one
+ *
+ * (Reading and judging a share decide 7 and 8 before 6.) A refused call changes nothing that it was lent: no letter of a buffer, and no
+ * number behind a pointer. Lengths are in letters, which are bytes. A pointer may be anything where its length is 0; pointers to numbers
+ * must be valid. Nothing is allocated or kept, and calls on different buffers may run at the same time.
+ *
+ * The archive is made by `rt staticlib dulvaspen` (target/staticlib/libdulvaspen.a, for x86-64 Linux):
+ *
+ *   cc -Iinclude examples/night.c target/staticlib/libdulvaspen.a -o night
+ */
+#ifndef DULVASPEN_H
+#define DULVASPEN_H
+
+#include <stdint.h>
+
+#ifdef __cplusplus
+extern "C" {
+#endif
+
+/* ---- lengths: what to lend ---- */
+
+/* *letters = B*L, the letters of a file and of the collector's buffer. Refusals: 1, 2.
+ * Example: n 3, k 2, d 2, l 2 gives 6. */
+uint64_t dulvaspen_file_letters(uint64_t n, uint64_t k, uint64_t d, uint64_t l, uint64_t *letters);
+
+/* *letters = T = d*(L + t(node,d)), the letters that a node holds; t(i,j) = (i-1)*(j-1). Refusals: 1, 2, 3.
+ * Example: node 2 of n 3, k 2, d 2, l 2 holds 6. */
+uint64_t dulvaspen_packet_letters(uint64_t n, uint64_t k, uint64_t d, uint64_t l, uint64_t node, uint64_t *letters);
+
+/* *letters = L' = L + t(lost,d), the letters of the piece that one helper sends for the lost node. A repair's buffer has d*L'.
+ * Refusals: 1, 2, 3. */
+uint64_t dulvaspen_repair_letters(uint64_t n, uint64_t k, uint64_t d, uint64_t l, uint64_t lost, uint64_t *letters);
+
+/* *bytes = the bytes of a node's share: 11 + 65 for each begun 64 letters + 5. Refusals: 1, 2, 3. */
+uint64_t dulvaspen_share_bytes(uint64_t n, uint64_t k, uint64_t d, uint64_t l, uint64_t node, uint64_t *bytes);
+
+/* ---- packets ---- */
+
+/* Fills packets with the node's d packets, one after another. file_len must be B*L (else 5), packets_len T (else 6).
+ * Refusals: 1, 2, 3, 5, 6. */
+uint64_t dulvaspen_encode(uint64_t n, uint64_t k, uint64_t d, uint64_t l, uint64_t node, const uint8_t *file, uint64_t file_len,
+                          uint8_t *packets, uint64_t packets_len);
+
+/* ---- recovery from k nodes ---- */
+
+/* What a node sends as rank (its place among the k ids, which fall) for a column is a part of its packets, L letters from
+ * packets[*start] on. packets_len must be T (else 5); packets is not read. A rank outside 1..k or a column outside rank..d is 3.
+ * Refusals: 1, 2, 3, 5. */
+uint64_t dulvaspen_piece(uint64_t n, uint64_t k, uint64_t d, uint64_t l, uint64_t node, uint64_t rank, uint64_t column,
+                         const uint8_t *packets, uint64_t packets_len, uint64_t *start);
+
+/* Where the collector puts that piece: from buffer[*start] on. Refusals: 1, 2, 3.
+ * Example: for v = 1..k and u = v..d copy L letters from node v's packets + piece's start to buffer + entry's start. */
+uint64_t dulvaspen_entry(uint64_t n, uint64_t k, uint64_t d, uint64_t l, uint64_t rank, uint64_t column, uint64_t *start);
+
+/* Turns the pieces in buffer into the file, in place: the one file that has those pieces, whatever their letters. ids are the k nodes,
+ * strictly falling. buffer_len must be B*L (else 5). *count = the letter additions made. Refusals: 1, 2, 3, 4, 5. */
+uint64_t dulvaspen_recover(uint64_t n, uint64_t k, uint64_t d, uint64_t l, const uint64_t *ids, uint64_t ids_len, uint8_t *buffer,
+                           uint64_t buffer_len, uint64_t *count);
+
+/* ---- repair from d nodes ---- */
+
+/* Fills piece with what the helper of this rank (its place among the d helpers, which fall) sends for the lost node. packets_len must be
+ * the helper's T (else 5), piece_len L' (else 6). A rank outside 1..d is 3, a helper that is the lost node 4.
+ * Refusals: 1, 2, 3, 4, 5, 6. */
+uint64_t dulvaspen_help(uint64_t n, uint64_t k, uint64_t d, uint64_t l, uint64_t lost, uint64_t helper, uint64_t rank,
+                        const uint8_t *packets, uint64_t packets_len, uint8_t *piece, uint64_t piece_len);
+
+/* Turns the d pieces in buffer, one after another in the helpers' order, into the lost node's packets, in place. helpers are d nodes,
+ * strictly falling, none of them lost. buffer_len must be d*L', which is the lost node's T (else 5). *count = the letter additions made.
+ * Refusals: 1, 2, 3, 4, 5. */
+uint64_t dulvaspen_repair(uint64_t n, uint64_t k, uint64_t d, uint64_t l, uint64_t lost, const uint64_t *helpers, uint64_t helpers_len,
+                          uint8_t *buffer, uint64_t buffer_len, uint64_t *count);
+
+/* ---- shares: a node's packets as stored bytes ---- */
+
+/* Fills share with the share of this node and batch. packets_len must be T (else 5), share_len dulvaspen_share_bytes' (else 6).
+ * Refusals: 1, 2, 3, 5, 6. */
+uint64_t dulvaspen_write_share(uint64_t n, uint64_t k, uint64_t d, uint64_t l, uint64_t node, uint32_t batch, const uint8_t *packets,
+                               uint64_t packets_len, uint8_t *share, uint64_t share_len);
+
+/* Reads any bytes. Of a share: head[0..5] = n, k, d, node, L, batch, and packets holds its letters. packets_len must be T and head_len 6
+ * (else 6). Refusals: 7, 8, then 6. To learn T first, judge the share. */
+uint64_t dulvaspen_read_share(const uint8_t *share, uint64_t share_len, uint8_t *packets, uint64_t packets_len, uint64_t *head,
+                              uint64_t head_len);
+
+/* Judges any bytes without copying letters: 0 and the head for a share, 7 for the beginning of one, 8 for neither. head_len must be 6
+ * (else 6). A share that was cut short, even by one byte, is never 0. Refusals: 7, 8, then 6. */
+uint64_t dulvaspen_judge_share(const uint8_t *share, uint64_t share_len, uint64_t *head, uint64_t head_len);
+
+#ifdef __cplusplus
+}
+#endif
+
+#endif
