@@ -12,4 +12,3 @@ pub mod Verdicts
 pub mod Written
 pub mod Outcomes
 pub mod RoundTrip
-pub mod Desk

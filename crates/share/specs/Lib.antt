@@ -4,4 +4,3 @@ pub mod Judgment
 pub mod Places
 pub mod Calls
 pub mod Reading
-pub mod Examples

@@ -1,0 +1,2 @@
+-- That the night-desk examples hold.
+pub mod Twelve

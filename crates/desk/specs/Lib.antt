@@ -1,0 +1,2 @@
+-- The night-desk examples.
+pub mod Examples

@@ -1,0 +1,25 @@
+// What the programs that run the calls have in common: words, numbers and letters on standard output, a number that
+// stands for many letters, letters and numbers of a small generator, and parts of slices that are never too long.
+mod generator;
+mod parts;
+mod words;
+
+pub use generator::next;
+pub use generator::scatter;
+pub use parts::first;
+pub use parts::first_ids;
+pub use parts::id_at;
+pub use parts::part;
+pub use parts::put;
+pub use parts::same;
+pub use parts::start;
+pub use words::answer;
+pub use words::checksum;
+pub use words::group;
+pub use words::ids;
+pub use words::letters;
+pub use words::number;
+pub use words::number_of;
+pub use words::refusal_number;
+pub use words::say;
+pub use words::value;

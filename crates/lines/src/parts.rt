@@ -1,0 +1,93 @@
+// Parts of slices. Where a slice is too short for what is asked, there is nothing to hand back and nothing to write.
+
+// The first `count` letters.
+pub fn first<'a>(letters: &'a [u8], count: usize) -> &'a [u8] {
+    if letters.len() < count {
+        return &letters[0..0];
+    }
+    &letters[0..count]
+}
+
+// The first letters, at most `most` of them.
+pub fn start<'a>(letters: &'a [u8], most: usize) -> &'a [u8] {
+    if letters.len() < most {
+        return letters;
+    }
+    &letters[0..most]
+}
+
+// The `count` letters from index `from` on.
+pub fn part<'a>(letters: &'a [u8], from: usize, count: usize) -> &'a [u8] {
+    if letters.len() < from {
+        return &letters[0..0];
+    }
+    if letters.len() - from < count {
+        return &letters[0..0];
+    }
+    let end = from + count;
+    &letters[from..end]
+}
+
+// The first `count` ids.
+pub fn first_ids<'a>(ids: &'a [usize], count: usize) -> &'a [usize] {
+    if ids.len() < count {
+        return &ids[0..0];
+    }
+    &ids[0..count]
+}
+
+// The id of this rank, counted from 1; 0 where there is none.
+pub fn id_at(ids: &[usize], rank: usize) -> usize {
+    if rank == 0 {
+        return 0;
+    }
+    if ids.len() < rank {
+        return 0;
+    }
+    ids[rank - 1]
+}
+
+// Writes one letter at index at + i.
+fn put_letter(into: &mut [u8], at: usize, i: usize, letter: u8) {
+    if into.len() <= at {
+        return;
+    }
+    if i < into.len() - at {
+        into[at + i] = letter;
+    }
+}
+
+// Writes `run` into `into` from index `at` on.
+pub fn put(into: &mut [u8], at: usize, run: &[u8]) {
+    let mut i = 0;
+    while i < run.len() {
+        put_letter(into, at, i, run[i]);
+        i += 1;
+    }
+}
+
+// The letter at index i is the same in both.
+fn same_at(a: &[u8], b: &[u8], i: usize) -> bool {
+    if a.len() <= i {
+        return false;
+    }
+    if b.len() <= i {
+        return false;
+    }
+    a[i] == b[i]
+}
+
+// Two slices are as long and have the same letters.
+pub fn same(a: &[u8], b: &[u8]) -> bool {
+    if a.len() != b.len() {
+        return false;
+    }
+    let mut i = 0;
+    while i < a.len() {
+        if !same_at(a, b, i) {
+            return false;
+        }
+        i += 1;
+    }
+    true
+}

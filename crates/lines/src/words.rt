@@ -1,0 +1,104 @@
+// Words, numbers and letters on standard output.
+use group::Answer;
+use group::Group;
+use group::Refusal;
+use libc::STDOUT_FILENO;
+
+pub fn say(words: &[u8]) {
+    io::write_all(STDOUT_FILENO, words);
+}
+
+// Some words and a number after them.
+pub fn number(words: &[u8], n: usize) {
+    say(words);
+    io::print_decimal(STDOUT_FILENO, n as u64);
+}
+
+// A letter as two hexadecimal digits.
+fn letter(letter: u8) {
+    say(b" ");
+    io::print_hex(STDOUT_FILENO, letter as u64, 2);
+}
+
+// Some words, and the letters after them.
+pub fn letters(words: &[u8], letters: &[u8]) {
+    say(words);
+    let mut i = 0;
+    while i < letters.len() {
+        letter(letters[i]);
+        i += 1;
+    }
+}
+
+// Some words, and the ids after them.
+pub fn ids(words: &[u8], ids: &[usize]) {
+    say(words);
+    let mut i = 0;
+    while i < ids.len() {
+        number(b" ", ids[i]);
+        i += 1;
+    }
+}
+
+// Some words, and the group's numbers after them.
+pub fn group(words: &[u8], g: Group) {
+    say(words);
+    number(b" [", g.n);
+    number(b",", g.k);
+    number(b",", g.d);
+    number(b"] L ", g.l);
+}
+
+// One step of the number that stands for many letters.
+fn add(sum: usize, letter: u8) -> usize {
+    (sum % 4294967291 * 31 + letter as usize + 1) % 4294967291
+}
+
+// A number that stands for all letters of `letters`: it changes with any of them, and with their order.
+pub fn checksum(letters: &[u8]) -> usize {
+    let mut sum: usize = 0;
+    let mut i = 0;
+    while i < letters.len() {
+        sum = add(sum, letters[i]);
+        i += 1;
+    }
+    sum
+}
+
+// An answer's value; a refusal carries 0.
+pub fn value(answer: Answer) -> usize {
+    match answer {
+        Answer::Value(value) => value,
+        Answer::Refused(_) => 0,
+    }
+}
+
+// A refusal's number.
+pub fn refusal_number(refusal: Refusal) -> usize {
+    match refusal {
+        Refusal::Numbers => 1,
+        Refusal::Length => 2,
+        Refusal::Ids => 3,
+        Refusal::Order => 4,
+        Refusal::Input => 5,
+        Refusal::Output => 6,
+        Refusal::Unfinished => 7,
+        Refusal::Malformed => 8,
+    }
+}
+
+// An answer's number: 0 where nothing is refused.
+pub fn number_of(answer: Answer) -> usize {
+    match answer {
+        Answer::Value(_) => 0,
+        Answer::Refused(refusal) => refusal_number(refusal),
+    }
+}
+
+// Some words and an answer's value after them, or that it is refused, and by which number.
+pub fn answer(words: &[u8], answer: Answer) {
+    match answer {
+        Answer::Value(value) => number(words, value),
+        Answer::Refused(refusal) => number(b" refused ", refusal_number(refusal)),
+    }
+}
