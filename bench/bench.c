@@ -1,0 +1,120 @@
+/* Each call of the library beside its plain C version, on the same letters, compared. Under valgrind's callgrind every call's instructions are
+ * dumped under its name; otherwise each is timed. bench/run makes the table. */
+#include "../include/dulvaspen.h"
+#include "plain.h"
+#include <stdio.h>
+#include <stdlib.h>
+#include <string.h>
+#include <time.h>
+#include <valgrind/callgrind.h>
+
+static uint8_t file[1 << 20], got[1 << 20], want[1 << 20], input[1 << 20], node_packets[17][1 << 17], share[1 << 17];
+static uint64_t held[17], count_ours, count_plain, head_ours[6], head_plain[6];
+static group g;
+
+static void stop(const char *what, uint64_t r) { fprintf(stderr, "bench: %s went wrong (%llu)\n", what, (unsigned long long)r); exit(1); }
+
+static double seconds(void) { struct timespec t; clock_gettime(CLOCK_MONOTONIC, &t); return (double)t.tv_sec + 1e-9 * (double)t.tv_nsec; }
+
+/* Runs CALL on a fresh copy of the input in BUFFER; letters is what the table divides by, and additions too where it isn't 0. */
+#define MEASURE(NAME, WHO, BUFFER, SIZE, CALL) do { \
+    uint64_t r_; memcpy(BUFFER, input, SIZE); \
+    if (RUNNING_ON_VALGRIND) { \
+        char name_[96]; snprintf(name_, sizeof name_, "%s %llu,%llu,%llu %llu %s", NAME, (unsigned long long)g.n, (unsigned long long)g.k, \
+            (unsigned long long)g.d, (unsigned long long)g.l, WHO); \
+        CALLGRIND_ZERO_STATS; r_ = (CALL); CALLGRIND_DUMP_STATS_AT(name_); \
+    } else { \
+        double best_ = 1e9; int i_; \
+        for (i_ = 0; i_ < 25; i_++) { double t_, s_; memcpy(BUFFER, input, SIZE); s_ = seconds(); r_ = (CALL); t_ = seconds() - s_; if (t_ < best_) best_ = t_; } \
+        printf("time %s %llu,%llu,%llu %llu %s %.0f\n", NAME, (unsigned long long)g.n, (unsigned long long)g.k, (unsigned long long)g.d, \
+            (unsigned long long)g.l, WHO, best_ * 1e9); \
+    } \
+    if (r_) stop(NAME, r_); } while (0)
+
+static void compare(const char *name, uint64_t letters, uint64_t additions) {
+    if (memcmp(got, want, letters)) stop(name, 99);
+    printf("size %s %llu,%llu,%llu %llu %llu %llu\n", name, (unsigned long long)g.n, (unsigned long long)g.k, (unsigned long long)g.d,
+           (unsigned long long)g.l, (unsigned long long)letters, (unsigned long long)additions);
+}
+
+static void packets(uint64_t letters) {
+    uint64_t node = g.n / 2, made = g.l * (g.k * g.d + (g.d - g.k) * g.k);
+    for (uint64_t i = 1; i <= g.n; i++) {
+        dulvaspen_packet_letters(g.n, g.k, g.d, g.l, i, &held[i]);
+        uint64_t r = dulvaspen_encode(g.n, g.k, g.d, g.l, i, file, letters, node_packets[i], held[i]);
+        if (r) stop("encode", r);
+    }
+    MEASURE("encode", "ours", got, held[node], dulvaspen_encode(g.n, g.k, g.d, g.l, node, file, letters, got, held[node]));
+    MEASURE("encode", "plain", want, held[node], plain_encode(g, node, file, letters, want, held[node]));
+    compare("encode", held[node], made);
+}
+
+static void recovery(uint64_t letters) {
+    uint64_t ids[16], from, to;
+    for (uint64_t v = 1; v <= g.k; v++) ids[v - 1] = g.n + 1 - v;
+    for (uint64_t v = 1; v <= g.k; v++)
+        for (uint64_t u = v; u <= g.d; u++) {
+            dulvaspen_piece(g.n, g.k, g.d, g.l, ids[v - 1], v, u, node_packets[ids[v - 1]], held[ids[v - 1]], &from);
+            dulvaspen_entry(g.n, g.k, g.d, g.l, v, u, &to);
+            memcpy(input + to, node_packets[ids[v - 1]] + from, g.l);
+        }
+    MEASURE("recover", "ours", got, letters, dulvaspen_recover(g.n, g.k, g.d, g.l, ids, g.k, got, letters, &count_ours));
+    MEASURE("recover", "plain", want, letters, plain_recover(g, ids, g.k, want, letters, &count_plain));
+    if (count_ours != count_plain || memcmp(got, file, letters)) stop("recover", 98);
+    compare("recover", letters, count_ours);
+}
+
+static void repair(void) {
+    uint64_t helpers[16], lost = 1 + g.n / 2, length, u = 0;
+    dulvaspen_repair_letters(g.n, g.k, g.d, g.l, lost, &length);
+    for (uint64_t i = g.n; u < g.d; i--) if (i != lost) helpers[u++] = i;
+    uint64_t h = helpers[0], made = 0;
+    for (uint64_t j = 1; j <= g.d; j++) { /* rank 1 skips nothing: packet j, moved by t(lost,j), as far as the piece reaches */
+        uint64_t lead = (lost - 1) * (j - 1), own = held[h] / g.d;
+        made += lead >= length ? 0 : own < length - lead ? own : length - lead;
+    }
+    MEASURE("help", "ours", got, length, dulvaspen_help(g.n, g.k, g.d, g.l, lost, h, 1, node_packets[h], held[h], got, length));
+    MEASURE("help", "plain", want, length, plain_help(g, lost, h, 1, node_packets[h], held[h], want, length));
+    compare("help", length, made);
+    for (u = 1; u <= g.d; u++)
+        dulvaspen_help(g.n, g.k, g.d, g.l, lost, helpers[u - 1], u, node_packets[helpers[u - 1]], held[helpers[u - 1]], input + (u - 1) * length, length);
+    MEASURE("repair", "ours", got, g.d * length, dulvaspen_repair(g.n, g.k, g.d, g.l, lost, helpers, g.d, got, g.d * length, &count_ours));
+    MEASURE("repair", "plain", want, g.d * length, plain_repair(g, lost, helpers, g.d, want, g.d * length, &count_plain));
+    if (count_ours != count_plain || memcmp(got, node_packets[lost], held[lost])) stop("repair", 98);
+    compare("repair", g.d * length, count_ours);
+}
+
+static void shares(void) {
+    uint64_t node = g.n / 2, bytes;
+    dulvaspen_share_bytes(g.n, g.k, g.d, g.l, node, &bytes);
+    MEASURE("write", "ours", got, bytes, dulvaspen_write_share(g.n, g.k, g.d, g.l, node, 7, node_packets[node], held[node], got, bytes));
+    MEASURE("write", "plain", want, bytes, plain_write(g, node, 7, node_packets[node], held[node], want, bytes));
+    compare("write", bytes, 0);
+    memcpy(share, got, bytes);
+    MEASURE("read", "ours", got, held[node], dulvaspen_read_share(share, bytes, got, held[node], head_ours, 6));
+    MEASURE("read", "plain", want, held[node], plain_read(share, bytes, want, held[node], head_plain));
+    if (memcmp(head_ours, head_plain, sizeof head_ours)) stop("read", 98);
+    compare("read", held[node], 0);
+    MEASURE("judge", "ours", got, bytes, dulvaspen_judge_share(share, bytes, head_ours, 6));
+    MEASURE("judge", "plain", want, bytes, plain_judge(share, bytes, head_plain));
+    if (memcmp(head_ours, head_plain, sizeof head_ours)) stop("judge", 98);
+    compare("judge", bytes, 0);
+}
+
+int main(void) {
+    static const group groups[] = {{6, 3, 4, 0}, {16, 4, 6, 0}, {16, 10, 12, 0}, {16, 15, 15, 0}};
+    static const uint64_t lengths[] = {64, 4096};
+    uint64_t letters;
+    for (uint64_t i = 0; i < sizeof file; i++) file[i] = (uint8_t)(i * 131 + (i >> 7) * 29 + (i >> 13));
+    for (int i = 0; i < 4; i++)
+        for (int j = 0; j < 2; j++) {
+            g = groups[i];
+            g.l = lengths[j];
+            dulvaspen_file_letters(g.n, g.k, g.d, g.l, &letters);
+            packets(letters);
+            recovery(letters);
+            repair();
+            shares();
+        }
+    return 0;
+}

@@ -1,0 +1,13 @@
+/* The store's calls as plain C would have them: the same checks, the same order of work, nothing proved. bench.c compares them with the library. */
+#include <stdint.h>
+
+typedef struct { uint64_t n, k, d, l; } group;
+
+uint64_t plain_encode(group g, uint64_t node, const uint8_t *file, uint64_t file_len, uint8_t *packets, uint64_t packets_len);
+uint64_t plain_help(group g, uint64_t lost, uint64_t helper, uint64_t rank, const uint8_t *packets, uint64_t packets_len, uint8_t *piece,
+                    uint64_t piece_len);
+uint64_t plain_recover(group g, const uint64_t *ids, uint64_t ids_len, uint8_t *buffer, uint64_t buffer_len, uint64_t *count);
+uint64_t plain_repair(group g, uint64_t lost, const uint64_t *helpers, uint64_t helpers_len, uint8_t *buffer, uint64_t buffer_len, uint64_t *count);
+uint64_t plain_write(group g, uint64_t node, uint32_t batch, const uint8_t *packets, uint64_t packets_len, uint8_t *share, uint64_t share_len);
+uint64_t plain_judge(const uint8_t *share, uint64_t share_len, uint64_t *head);
+uint64_t plain_read(const uint8_t *share, uint64_t share_len, uint8_t *packets, uint64_t packets_len, uint64_t *head);
