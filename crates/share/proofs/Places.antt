@@ -18,7 +18,7 @@ use Rattle.group.proofs.InRange.{node-of}
 use Rattle.group.proofs.Sizes.{node-at-most}
 use Rattle.share.specs.declared.Head.{Head}
 use Rattle.share.specs.Share.{headRecord, endRecord, shareOf}
-use Rattle.share.specs.Places.{totalIn, headTests, blockKind, blockByte, blockStands, endStands, recordStands, standsIn, stands, headIn, totalOf, recordStart, recordSize, recordAt, offsetAt, byteIn, sizeFor}
+use Rattle.share.specs.Places.{totalIn, headTests, blockKind, blockByte, blockStands, endStands, recordStands, standsIn, stands, headIn, totalOf, recordStart, recordSize, recordAt, offsetAt}
 use Rattle.share.proofs.Heads.{each-offset}
 use Rattle.share.proofs.LaidOut.{in-head, in-blocks, in-end, record-at, offset-at, head-at}
 
@@ -35,13 +35,6 @@ pub block-later :
     (T r offset byte : ℕ) → (offset ≡ 0 → ⊥) → blockStands T r offset byte ≡ either (ltb (r * 64 + (offset - 1)) T) (eqb byte 0)
 unfolding blockStands
 block-later T r offset byte n = ap (λ j. blockStands T r j byte) (one-past offset n)
-
-pub byte-first : (letters : List ℕ) (r offset : ℕ) → offset ≡ 0 → blockByte letters r offset ≡ blockKind (length letters) r
-byte-first letters r offset e = rw e
-
-pub byte-later :
-    (letters : List ℕ) (r offset : ℕ) → (offset ≡ 0 → ⊥) → blockByte letters r offset ≡ getD letters (r * 64 + (offset - 1)) 0
-byte-later letters r offset n = ap (blockByte letters r) (one-past offset n)
 
 -- a record that isn't the head
 pub size-past-head : (nth : ℕ) → (nth ≡ 0 → ⊥) → recordSize nth ≡ 65
@@ -94,6 +87,9 @@ pub next-start : (nth : ℕ) → recordStart nth + recordSize nth ≡ recordStar
 next-start zero = refl
 next-start (suc r) = rw add-one (omega arith)
 
+pub start-of-block : (r : ℕ) → recordStart (r + 1) ≡ 11 + r * 65
+start-of-block r = rw add-one refl
+
 pub size-some : (nth : ℕ) → 1 ≤ recordSize nth
 size-some zero = omega arith
 size-some (suc r) = omega arith
@@ -145,38 +141,3 @@ total-at-most h = by (nodeRefusal (h .group) (h .node)) refl
     by : (q : ℕ) → nodeRefusal (h .group) (h .node) ≡ q → ifFine q (nodeLetters (h .group) (h .node)) 0 ≤ 64815
     by zero e = node-at-most (h .group) (h .node) (node-of (h .group) (h .node) e)
     by (suc q) e = omega arith
-
--- the byte that the code writes at an offset of a record is the share's
-pub byte-placed :
-    (h : Head) (letters : List ℕ) (nth j p : ℕ) → j < recordSize nth → p ≡ recordStart nth + j → p < sizeFor (length letters)
-    → byteIn h letters nth j ≡ getD (shareOf h letters) p 0
-unfolding byteIn
-byte-placed h letters zero j p hj e l =
-    let same : p ≡ j = omega arith in sym (ap (λ i. getD (shareOf h letters) i 0) same ∙ in-head h letters j hj)
-byte-placed h letters (suc r) j p hj e l =
-    ⊎-elim
-    (λ past.
-    let at : r ≡ blocks (length letters) = omega arith in
-    let place : p ≡ 11 + (blocks (length letters) * 65 + j) = omega arith in
-    simp (le-ltb r (blocks (length letters)) past) (sym (ap (λ i. getD (shareOf h letters) i 0) place ∙ in-end h letters j)))
-    (λ within.
-    let place : p ≡ 11 + (r * 65 + j) = omega arith in
-    simp (lt-ltb r (blocks (length letters)) within) (sym (ap (λ i. getD (shareOf h letters) i 0) place ∙ in-blocks h letters r j within hj)))
-    (le-or-lt (blocks (length letters)) r)
-
--- that byte, record by record
-module _ (h : Head) (letters : List ℕ) (nth j : ℕ) where
-  pub in-head-byte : nth ≡ 0 → byteIn h letters nth j ≡ getD (headRecord h) j 0
-  unfolding byteIn
-  in-head-byte e = rw e
-
-  past-first : (nth ≡ 0 → ⊥) → byteIn h letters nth j ≡ byteIn h letters (suc (nth - 1)) j
-  past-first n = ap (λ i. byteIn h letters i j) (one-past nth n)
-
-  pub in-block-byte : (nth ≡ 0 → ⊥) → nth - 1 < blocks (length letters) → byteIn h letters nth j ≡ blockByte letters (nth - 1) j
-  unfolding byteIn
-  in-block-byte n l = past-first n ∙ simp (lt-ltb (nth - 1) (blocks (length letters)) l)
-
-  pub in-end-byte : (nth ≡ 0 → ⊥) → blocks (length letters) ≤ nth - 1 → byteIn h letters nth j ≡ getD (endRecord (length letters)) j 0
-  unfolding byteIn
-  in-end-byte n l = past-first n ∙ simp (le-ltb (nth - 1) (blocks (length letters)) l)

@@ -1,11 +1,11 @@
 -- Going through a share record by record and byte by byte, as its reader and its writer do.
-use mathlib.Core.Path.{_≡_, refl}
+use mathlib.Core.Path.{_≡_, refl, _∙_}
 use mathlib.Core.Logic.{⊎-elim}
-use Prim.Native.Nat.{ℕ, min, _+_, _-_, _≤_, _<_}
+use Prim.Native.Nat.{ℕ, min, _+_, _-_, _*_, _≤_, _<_}
 use native.Mathlib.Omega.{arith}
 use Rattle.letters.proofs.Cases.{le-or-lt}
 use Rattle.share.specs.Places.{recordStart, recordSize}
-use Rattle.share.proofs.Places.{next-start, size-some, size-at-most}
+use Rattle.share.proofs.Places.{next-start, start-of-block, size-some, size-at-most}
 
 -- between two records of so many bytes: where one is left, a record starts there
 pub record Between (count at nth : ℕ) : Type 0 where
@@ -43,11 +43,11 @@ enter count at nth size end b h s e =
       some = omega arith;
     }
 
-pub step : (count nth start end at : ℕ) → Inside count nth start end at → at < end → Inside count nth start end (at + 1)
-step count nth start end at w h =
+pub stride : (count nth start end at next : ℕ) → Inside count nth start end at → at ≤ next → next ≤ end → Inside count nth start end next
+stride count nth start end at next w lo hi =
     record {
       from = omega arith;
-      until = omega arith;
+      until = hi;
       fits = w .fits;
       size = w .size;
       whole = w .whole;
@@ -56,9 +56,32 @@ step count nth start end at w h =
       some = w .some;
     }
 
-pub leave : (count nth start end at : ℕ) → Inside count nth start end at → end ≤ at → Between count at (nth + 1)
+leave : (count nth start end at : ℕ) → Inside count nth start end at → end ≤ at → Between count at (nth + 1)
 leave count nth start end at w h =
     record { within = omega arith; begins = λ l. omega (arith, w .whole (omega arith), next-start nth); few = omega arith }
+
+-- the record is left, and as many whole blocks after it are passed
+module _ (count nth start end at : ℕ) (w : Inside count nth start end at) (done : end ≤ at) where
+  -- where a block after the record is there, the record is whole, and that block starts where it ends
+  pub at-block : (e : ℕ) → nth < e → 11 + e * 65 ≤ count → at ≡ 11 + nth * 65
+  at-block e some there =
+      let starts = next-start nth ∙ start-of-block nth in
+      let past : end < count = omega (arith, starts, w) in omega (arith, starts, w .whole past, w)
+
+  pub pass : (e : ℕ) → nth ≤ e → (nth < e → 11 + e * 65 ≤ count) → Between count (at + (e - nth) * 65) (e + 1)
+  pass e on there = ⊎-elim none some (le-or-lt e nth)
+    where
+      none : e ≤ nth → Between count (at + (e - nth) * 65) (e + 1)
+      none h =
+          let same : e ≡ nth = omega arith in
+          let stay : at + (e - nth) * 65 ≡ at = omega arith in
+          rw stay (rw same (leave count nth start end at w done))
+
+      some : nth < e → Between count (at + (e - nth) * 65) (e + 1)
+      some h =
+          let here = at-block e h (there h) in
+          let fits = there h in
+          record { within = omega arith; begins = λ l. omega (arith, start-of-block e); few = omega arith }
 
 -- the byte at hand stands at an offset of the record
 pub offset-inside : (count nth start end at : ℕ) → Inside count nth start end at → at < end → at - start < recordSize nth

@@ -4,3 +4,4 @@ pub mod Judgment
 pub mod Places
 pub mod Calls
 pub mod Reading
+pub mod Writing

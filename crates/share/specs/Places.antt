@@ -71,12 +71,6 @@ abbrev pub blockByte : List ℕ → ℕ → ℕ → ℕ
 blockByte letters r zero = blockKind (length letters) r
 blockByte letters r (suc j) = getD letters (r * blockLetters + j) 0
 
--- the byte at an offset of a record of the share of these letters
-unfoldable pub byteIn : Head → List ℕ → ℕ → ℕ → ℕ
-byteIn h letters zero j = getD (headRecord h) j 0
-byteIn h letters (suc r) j =
-    cond (ltb r (blocks (length letters))) (blockByte letters r j) (getD (endRecord (length letters)) j 0)
-
 -- the letter at index i, from 0, as the bytes of a share have it
 abbrev pub letterIn : List ℕ → ℕ → ℕ
 letterIn xs i = getD xs (headSize + (i / blockLetters * blockSize + suc (i % blockLetters))) 0

@@ -2,13 +2,14 @@
 use mathlib.Core.Path.{_≡_}
 use mathlib.Core.Bool.{true, false, cond}
 use mathlib.Core.List.{List}
-use Prim.Native.Nat.{ℕ, _≤_, _<_}
+use Prim.Native.Nat.{ℕ, _+_, _*_, _≤_, _<_}
 use lib.Dec.{ltb, eqb}
 use lib.ListN.{length, getD}
 use Rattle.group.specs.declared.Refusal.{Refusal}
 use Rattle.share.specs.declared.Head.{Head}
 use Rattle.share.specs.declared.Judgment.{Judgment}
-use Rattle.share.specs.Places.{stands, sizeFor, letterIn}
+use Rattle.share.specs.Share.{kindFull, headSize, blockSize, blockLetters}
+use Rattle.share.specs.Places.{stands, standsIn, sizeFor, letterIn}
 
 -- every byte before index q stands; and q is past the last byte, or that byte doesn't stand
 pub record Stops (xs : List ℕ) (q : ℕ) : Type 0 where
@@ -26,3 +27,15 @@ abbrev pub judgmentAt : Head → ℕ → ℕ → ℕ → Judgment
 judgmentAt h letters at count =
     cond (ltb at count) (Judgment.Refused Refusal.Malformed)
     (cond (eqb count (sizeFor letters)) (Judgment.Complete h) (Judgment.Refused Refusal.Unfinished))
+
+-- so many bytes after this one in its record are letters: any byte can stand there
+pub record Skips (letters nth offset count : ℕ) : Type 0 where
+  pub few : count ≤ blockLetters
+  pub any : (h : Head) (j byte : ℕ) → offset < j → j ≤ offset + count → standsIn h letters nth j byte ≡ true
+
+-- from block r up to e all blocks are there, full, and of that kind
+pub record FullBlocks (xs : List ℕ) (letters r e : ℕ) : Type 0 where
+  pub on : r ≤ e
+  pub there : r < e → headSize + e * blockSize ≤ length xs
+  pub full : r < e → e * blockLetters ≤ letters
+  pub kinds : (q : ℕ) → r ≤ q → q < e → getD xs (headSize + q * blockSize) 0 ≡ kindFull

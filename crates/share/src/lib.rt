@@ -1,6 +1,7 @@
 // A node's packets as stored bytes: the share, written, judged and read.
 mod reading;
 mod records;
+mod runs;
 mod writing;
 
 use group::Answer;

@@ -2,6 +2,7 @@
 use crate::Head;
 use crate::Judgment;
 use crate::records;
+use crate::runs;
 use group::Answer;
 use group::Group;
 use group::Refusal;
@@ -13,7 +14,7 @@ ghost use lib.ListN.{length, getD};
 ghost use Rattle.group.specs.Ranges.{between};
 ghost use Rattle.share.specs.Places.{headIn, totalOf, headTests, blockStands, endStands, recordStands, standsIn, sizeFor, letterBound};
 ghost use Rattle.share.specs.Calls.{Reads, numberOf, headOf};
-ghost use Rattle.share.specs.Reading.{Stops, Copied, judgmentAt};
+ghost use Rattle.share.specs.Reading.{Stops, Skips, FullBlocks, Copied, judgmentAt};
 ghost use Rattle.share.specs.Judgment.{IsShareOf};
 
 // The byte at an index; a byte that isn't there counts as 0.
@@ -162,7 +163,47 @@ fn stands_in(head: Head, letters: usize, nth: usize, offset: usize, byte: u8) ->
     record_stands(letters, nth - 1, offset, byte)
 }
 
-// The index of the first byte that can't stand there, or the number of bytes: record by record, byte by byte.
+// How many letters follow this byte in its record. Any letter can stand, so they needn't be looked at.
+fn letters_after(letters: usize, nth: usize, offset: usize) -> usize
+    requires { ⌜ letters ≤ letterBound ⌝ }
+    ensures { λ r. ⌜ Skips letters nth offset r ⌝ }
+{
+    if 0 < offset {
+        return 0;
+    }
+    if nth == 0 {
+        return 0;
+    }
+    if records::blocks_of(letters) < nth {
+        return 0;
+    }
+    records::lesser(
+        letters - (nth - 1) * records::BLOCK_LETTERS,
+        records::BLOCK_LETTERS,
+    )
+}
+
+// The first block from r on that isn't a whole full one with its kind: in those before it every byte stands.
+fn past_full_blocks(share: &[u8], letters: usize, r: usize) -> usize
+    ensures { λ e. ⌜ FullBlocks (now (share .entry)) letters r e ⌝ }
+{
+    if share.len() < records::HEAD_SIZE {
+        return r;
+    }
+    let whole = (share.len() - records::HEAD_SIZE) / records::BLOCK_SIZE;
+    let most = records::lesser(whole, letters / records::BLOCK_LETTERS);
+    let mut e = r;
+    while e < most {
+        if share[records::HEAD_SIZE + e * records::BLOCK_SIZE] != records::KIND_FULL {
+            return e;
+        }
+        e += 1;
+    }
+    e
+}
+
+// The index of the first byte that can't stand there, or the number of bytes: record by record, byte by byte. Letters are stepped over,
+// and so are whole full blocks.
 pub fn first_wrong(share: &[u8], head: Head, letters: usize) -> usize
     requires { ⌜ (head ≡ headIn (now share)) × (letters ≡ totalOf head) ⌝ }
     ensures { λ r. ⌜ Stops (now (share .entry)) r ⌝ }
@@ -176,9 +217,11 @@ pub fn first_wrong(share: &[u8], head: Head, letters: usize) -> usize
             if !stands_in(head, letters, nth, at - start, share[at]) {
                 break 'records;
             }
-            at += 1;
+            at = records::lesser(at + 1 + letters_after(letters, nth, at - start), end);
         }
-        nth += 1;
+        let next = past_full_blocks(share, letters, nth);
+        at += (next - nth) * records::BLOCK_SIZE;
+        nth = next + 1;
     }
     at
 }
@@ -197,16 +240,31 @@ pub fn judged(head: Head, letters: usize, at: usize, count: usize) -> Judgment
     Judgment::Refused(Refusal::Unfinished)
 }
 
-// Copies the letters out of a share's blocks: before each block's letters stands its kind.
+// Copies the letters out of a share's blocks: those of each full block, and then those of the last one. Before them stands its kind.
 fn copy_letters(share: &[u8], packets: &mut [u8])
     requires { ⌜ sizeFor (length (now packets)) ≤ length (now share) ⌝ }
     ensures { λ _. ⌜ Copied (now (share .entry)) (length (now (packets .entry))) (now (packets .exit)) ⌝ }
 {
-    let mut i = 0;
-    while i < packets.len() {
-        packets[i] = share[records::HEAD_SIZE + 1 + i + i / records::BLOCK_LETTERS];
-        i += 1;
+    let full = packets.len() / records::BLOCK_LETTERS;
+    let mut r = 0;
+    while r < full {
+        runs::copy_block(
+            share,
+            records::HEAD_SIZE + 1 + r * records::BLOCK_SIZE,
+            packets,
+            r * records::BLOCK_LETTERS,
+        );
+        r += 1;
     }
+    let done = full * records::BLOCK_LETTERS;
+    let left = packets.len() - done;
+    runs::copy(
+        share,
+        records::HEAD_SIZE + 1 + full * records::BLOCK_SIZE,
+        packets,
+        done,
+        left,
+    );
 }
 
 // Reads the letters of a share, if there is room for exactly them: refusal 6.

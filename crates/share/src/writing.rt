@@ -1,17 +1,20 @@
-// Writing a share: record by record, byte by byte.
+// Writing a share: the head, the full blocks, the last one and the end, one after another.
 use crate::Head;
 use crate::records;
+use crate::runs;
 use group::Answer;
 use group::Check;
 use group::checks;
 use group::lengths;
 ghost use mathlib.Core.Path.{_≡_};
-ghost use Prim.Native.Nat.{_≤_, _<_};
+ghost use Prim.Native.Nat.{_+_, _-_, _*_, _/_, _≤_};
 ghost use lib.ListN.{length, getD};
 ghost use Rattle.group.specs.Ranges.{NodeOf};
+ghost use Rattle.group.specs.Lengths.{blocks};
 ghost use Rattle.share.specs.Calls.{Writes, fitRefusal};
-ghost use Rattle.share.specs.Places.{blockByte, byteIn, sizeFor, letterBound};
-ghost use Rattle.share.specs.Share.{headRecord, shareOf};
+ghost use Rattle.share.specs.Places.{sizeFor, letterBound};
+ghost use Rattle.share.specs.Share.{headSize, blockSize, blockLetters, headRecord, endRecord, shareOf};
+ghost use Rattle.share.specs.Writing.{Laid, blocksByte};
 
 // The byte at an offset of the head.
 fn head_byte(head: Head, offset: usize) -> u8
@@ -36,51 +39,71 @@ fn head_byte(head: Head, offset: usize) -> u8
     }
 }
 
-// The byte at an offset of block r: its kind, and then a letter, or 0 past the last one.
-fn block_byte(packets: &[u8], r: usize, offset: usize) -> u8
-    requires { ⌜ (r < 65536) × (offset < 65) ⌝ }
-    ensures { λ b. ⌜ b ≡ blockByte (now (packets .entry)) r offset ⌝ }
+// The head, at the front.
+fn put_head(head: Head, share: &mut [u8])
+    requires { ⌜ (NodeOf (head .group) (head .node)) × (headSize ≤ length (now share)) ⌝ }
+    ensures { λ _. ⌜ Laid (now (share .entry)) (now (share .exit)) 0 headSize (λ p. getD (headRecord head) p 0) ⌝ }
 {
-    if offset == 0 {
-        return records::block_kind(packets.len(), r);
+    let mut at = 0;
+    while at < records::HEAD_SIZE {
+        share[at] = head_byte(head, at);
+        at += 1;
     }
-    let i = r * records::BLOCK_LETTERS + (offset - 1);
-    if packets.len() <= i {
-        return 0;
-    }
-    packets[i]
 }
 
-// The byte at an offset of a record.
-fn byte_of(head: Head, packets: &[u8], nth: usize, offset: usize) -> u8
-    requires { ⌜ (NodeOf (head .group) (head .node)) × (length (now packets) ≤ letterBound) × (offset < 65) ⌝ }
-    ensures { λ b. ⌜ b ≡ byteIn head (now (packets .entry)) nth offset ⌝ }
+// The full blocks: each is its kind and 64 letters.
+fn put_full_blocks(packets: &[u8], share: &mut [u8])
+    requires { ⌜ (length (now packets) ≤ letterBound) × (length (now share) ≡ sizeFor (length (now packets))) ⌝ }
+    ensures { λ _. ⌜ Laid (now (share .entry)) (now (share .exit)) headSize (headSize + length (now (packets .entry)) / blockLetters * blockSize) (blocksByte (now (packets .entry))) ⌝ }
 {
-    if nth == 0 {
-        return head_byte(head, offset);
+    let full = packets.len() / records::BLOCK_LETTERS;
+    let mut r = 0;
+    while r < full {
+        let at = records::HEAD_SIZE + r * records::BLOCK_SIZE;
+        share[at] = records::KIND_FULL;
+        runs::copy_block(packets, r * records::BLOCK_LETTERS, share, at + 1);
+        r += 1;
     }
-    if nth - 1 < records::blocks_of(packets.len()) {
-        return block_byte(packets, nth - 1, offset);
-    }
-    records::end_byte(packets.len(), offset)
 }
 
-// Writes the share of this head and these letters into a buffer of its exact length.
+// The last block, if the full ones leave any letters: its kind, these letters, and zeros.
+fn put_last_block(packets: &[u8], share: &mut [u8])
+    requires { ⌜ (length (now packets) ≤ letterBound) × (length (now share) ≡ sizeFor (length (now packets))) ⌝ }
+    ensures { λ _. ⌜ Laid (now (share .entry)) (now (share .exit)) (headSize + length (now (packets .entry)) / blockLetters * blockSize) (headSize + blocks (length (now (packets .entry))) * blockSize) (blocksByte (now (packets .entry))) ⌝ }
+{
+    let full = packets.len() / records::BLOCK_LETTERS;
+    let left = packets.len() - full * records::BLOCK_LETTERS;
+    if left == 0 {
+        return;
+    }
+    let at = records::HEAD_SIZE + full * records::BLOCK_SIZE;
+    share[at] = records::KIND_LAST;
+    runs::copy(packets, full * records::BLOCK_LETTERS, share, at + 1, left);
+    runs::clear(share, at + 1 + left, at + records::BLOCK_SIZE);
+}
+
+// The end, at the back.
+fn put_end(letters: usize, share: &mut [u8])
+    requires { ⌜ (letters ≤ letterBound) × (length (now share) ≡ sizeFor letters) ⌝ }
+    ensures { λ _. ⌜ Laid (now (share .entry)) (now (share .exit)) (headSize + blocks letters * blockSize) (sizeFor letters) (λ p. getD (endRecord letters) (p - (headSize + blocks letters * blockSize)) 0) ⌝ }
+{
+    let start = records::HEAD_SIZE + records::blocks_of(letters) * records::BLOCK_SIZE;
+    let mut i = 0;
+    while i < records::END_SIZE {
+        share[start + i] = records::end_byte(letters, i);
+        i += 1;
+    }
+}
+
+// Writes the share of this head and these letters into a buffer of its exact length, from its front to its back.
 fn fill(head: Head, packets: &[u8], share: &mut [u8])
     requires { ⌜ (NodeOf (head .group) (head .node)) × (length (now packets) ≤ letterBound) × (length (now share) ≡ sizeFor (length (now packets))) ⌝ }
     ensures { λ _. ⌜ now (share .exit) ≡ shareOf head (now (packets .entry)) ⌝ }
 {
-    let mut at = 0;
-    let mut nth = 0;
-    while at < share.len() {
-        let start = at;
-        let end = records::lesser(start + records::record_size(nth), share.len());
-        while at < end {
-            share[at] = byte_of(head, packets, nth, at - start);
-            at += 1;
-        }
-        nth += 1;
-    }
+    put_head(head, share);
+    put_full_blocks(packets, share);
+    put_last_block(packets, share);
+    put_end(packets.len(), share);
 }
 
 // Writes a share of a node in range: refusals 5 and 6.

@@ -1,64 +1,86 @@
--- `reading::copy_letters` meets its contract: each letter has its own place in the blocks.
-use mathlib.Core.Path.{_≡_, refl, ap, _∙_}
-use Prim.Native.Nat.{ℕ, suc, _+_, _-_, _*_, _/_, _%_, _≤_, _<_}
+-- `reading::copy_letters` meets its contract: after r turns the letters of r blocks are copied, and then those of the last one.
+use mathlib.Core.Path.{_≡_, refl, sym, _∙_}
+use Prim.Native.Nat.{_+_, _-_, _*_, _/_, _≤_}
 use native.Mathlib.Omega.{arith}
-use lib.ListN.{length, getD, length-set}
-use lib.Seq.{getD-set-same, getD-set-other}
+use lib.ListN.{length}
 use Rattle.share.specs.Places.{letterIn}
-use Rattle.share.proofs.Walk.{one-more}
+use Rattle.share.specs.Writing.{Laid}
+use Rattle.share.proofs.Laying.{nothing-laid, laid-on, laid-until}
+use Rattle.share.proofs.Blocks.{letters-of-block, all-copied}
 use Rattle.share.proofs.reading.copy_letters.Statement.{statement}
 use Rattle.share.proofs.reading.copy_letters.Tie as tie
-
-place : (i : ℕ) → 11 + 1 + i + i / 64 ≡ 11 + (i / 64 * 65 + suc (i % 64))
-place i = omega arith
+use Rattle.share.proofs.reading.copy_letters.Reads as reads
+use Rattle.share.proofs.reading.copy_letters.Lts as lts
+use Rattle.share.proofs.runs.copy.Reads as copy-reads
+use Rattle.share.proofs.runs.copy_block.Reads as copy-block-reads
 
 abbrev Inv-loop : tie.InvT-loop
-Inv-loop share packets₀ i₀ packets i =
-    (i ≤ length packets₀) × (length packets ≡ length packets₀) × ((j : ℕ) → j < i → getD packets j 0 ≡ letterIn share j)
+Inv-loop share packets₀ full r₀ packets r = (full ≡ length packets₀ / 64) × (r ≤ full) × Laid packets₀ packets 0 (r * 64) (letterIn share)
 
 abbrev μ-loop : tie.MeasureT-loop
-μ-loop share packets₀ i₀ packets i = length packets₀ - i
+μ-loop share packets₀ full r₀ packets r = full - r
 
 loop-holds : tie.Need-loop-holds Inv-loop μ-loop
-loop-holds c = (omega arith, refl, λ j h. absurd (omega arith))
+loop-holds c = (refl, omega arith, nothing-laid _ _ _ _ (omega arith))
 
-add-packets : tie.Need-add-packets Inv-loop μ-loop
-add-packets c = omega arith
+add-copy-block : tie.Need-add-copy-block Inv-loop μ-loop
+add-copy-block c = omega arith
 
-add-packets-2 : tie.Need-add-packets-2 Inv-loop μ-loop
-add-packets-2 c = omega arith
+mul-copy-block : tie.Need-mul-copy-block Inv-loop μ-loop
+mul-copy-block c = omega arith
 
-add-packets-3 : tie.Need-add-packets-3 Inv-loop μ-loop
-add-packets-3 c = omega arith
+add-copy-block-2 : tie.Need-add-copy-block-2 Inv-loop μ-loop
+add-copy-block-2 c = omega arith
 
-shared-slice-read-packets : tie.Need-shared-slice-read-packets Inv-loop μ-loop
-shared-slice-read-packets c = omega arith
+mul-copy-block-2 : tie.Need-mul-copy-block-2 Inv-loop μ-loop
+mul-copy-block-2 c = omega arith
 
-slice-write-packets : tie.Need-slice-write-packets Inv-loop μ-loop
-slice-write-packets c = omega arith
+copy-block-requires : tie.Need-copy-block-requires Inv-loop μ-loop
+copy-block-requires c κs = let l = c .before .before .loop in (omega arith, omega (arith, l .inv .2 .same-length))
 
-add-i : tie.Need-add-i Inv-loop μ-loop
-add-i c = omega arith
+add-r : tie.Need-add-r Inv-loop μ-loop
+add-r c = omega arith
 
 loop-less : tie.Need-loop-less Inv-loop μ-loop
 loop-less c = omega arith
 
 loop-again : tie.Need-loop-again Inv-loop μ-loop
 loop-again c =
-    let l = c .before .before .loop in
-    let xs = c .before .before .before .args .share .now in (
+    let l = c .before .before .before .before .before .loop in (
+      refl,
       omega arith,
-      simp length-set (l .inv .1),
-      one-more (l .i)
-          (λ j h. getD-set-other (l .packets) (l .i) j _ 0 (λ same. omega arith) ∙ l .inv .2 j h)
-          (getD-set-same (l .packets) (l .i) _ 0 (omega arith) ∙ ap (λ p. getD xs p 0) (place (l .i))),
+      laid-until _ _ _ _ _ _ (omega arith)
+          (laid-on _ (l .packets) _ 0 (l .r * 64) _ _ (omega arith) (l .inv .2) (letters-of-block (c .before .before .before .before .before .before .before .before .args .share .now) _ _ (l .r) 64 (omega arith) (c .before .before .copy-block .ensures))),
     )
 
+mul-done : tie.Need-mul-done Inv-loop μ-loop
+mul-done c = omega arith
+
+sub-left : tie.Need-sub-left Inv-loop μ-loop
+sub-left c = omega (arith, c .before .loop .inv .2 .same-length)
+
+add-copy : tie.Need-add-copy Inv-loop μ-loop
+add-copy c = omega arith
+
+mul-copy : tie.Need-mul-copy Inv-loop μ-loop
+mul-copy c = omega arith
+
+add-copy-2 : tie.Need-add-copy-2 Inv-loop μ-loop
+add-copy-2 c = omega arith
+
+copy-requires : tie.Need-copy-requires Inv-loop μ-loop
+copy-requires c κs = let same = c .before .before .loop .inv .2 .same-length in (omega (arith, same), omega (arith, same))
+
 same-length : tie.Need-same-length Inv-loop μ-loop
-same-length c = c .before .loop .inv .1
+same-length c = c .before .before .copy .ensures .same-length ∙ c .before .before .before .before .before .loop .inv .2 .same-length
 
 returns : tie.Need-returns Inv-loop μ-loop
-returns c = record { counted = c .before .loop .inv .1; copied = λ i h. c .before .loop .inv .2 i (omega arith) }
+returns c =
+    let a = c .before .before .before .before .before .before .before .before .args in
+    let l = c .before .before .before .before .before .loop in
+    let same = l .inv .2 .same-length in
+    let turns : l .r ≡ length (a .packets .now) / 64 = omega (arith, l .inv .0, l .inv .1) in
+    all-copied (a .share .now) (a .packets .now) (l .packets) _ (rw (sym turns) (l .inv .2)) (c .before .before .copy .ensures)
 
 pub copy-letters-spec : {M : Type 1} → statement M
 copy-letters-spec =
@@ -67,13 +89,19 @@ copy-letters-spec =
     Inv-loop
     μ-loop
     loop-holds
-    add-packets
-    add-packets-2
-    add-packets-3
-    shared-slice-read-packets
-    slice-write-packets
-    add-i
+    add-copy-block
+    mul-copy-block
+    add-copy-block-2
+    mul-copy-block-2
+    copy-block-requires
+    add-r
     loop-less
     loop-again
+    mul-done
+    sub-left
+    add-copy
+    mul-copy
+    add-copy-2
+    copy-requires
     same-length
     returns)

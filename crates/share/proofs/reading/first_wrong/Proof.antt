@@ -1,33 +1,63 @@
--- `reading::first_wrong` meets its contract: every byte passed stands, and the byte at which the loops are left by their label
--- doesn't, since the offset in its record tells its test.
+-- `reading::first_wrong` meets its contract: every byte passed stands, looked at or stepped over, and the byte at which the loops are
+-- left by their label doesn't, since the offset in its record tells its test.
 use mathlib.Core.Path.{_≡_, sym, ap, ap₂, _∙_}
 use mathlib.Core.Bool.{Bool, true}
 use mathlib.Core.List.{List}
-use Prim.Native.Nat.{ℕ, _-_, _<_}
+use mathlib.Core.Logic.{⊎-elim}
+use Prim.Native.Nat.{ℕ, _+_, _-_, _*_, _≤_, _<_}
 use native.Mathlib.Omega.{arith}
 use lib.ListN.{length, getD}
 use borrow.Author.Needs.{needs}
 use borrow.Author.Tests.{not-true, not-false}
+use Rattle.letters.proofs.Cases.{le-or-lt}
 use Rattle.share.specs.declared.Head.{Head}
 use Rattle.share.specs.Places.{headIn, totalOf, standsIn, stands}
+use Rattle.share.specs.Reading.{Skips, FullBlocks}
 use Rattle.share.proofs.Places.{stands-placed, size-at-most, total-at-most}
-use Rattle.share.proofs.Walk.{Between, Inside, outset, enter, step, leave, offset-inside, place-inside, offset-small, one-more}
+use Rattle.share.proofs.Walk.{Between, Inside, outset, enter, stride, at-block, pass, offset-small}
+use Rattle.share.proofs.Skipping.{full-stand}
 use Rattle.share.proofs.reading.first_wrong.Statement.{statement}
 use Rattle.share.proofs.reading.first_wrong.Tie as tie
-
--- the test that the code makes is that of the byte's index
-tested :
-    (xs : List ℕ) (h : Head) (T nth start end at : ℕ) (r : Bool) → h ≡ headIn xs → T ≡ totalOf h
-    → Inside (length xs) nth start end at → at < end
-    → r ≡ standsIn h T nth (at - start) (getD xs at 0) → stands xs at ≡ r
-tested xs h T nth start end at r eh et w l e =
-    stands-placed xs nth (at - start) at (offset-inside _ _ _ _ _ w l) (place-inside _ _ _ _ _ w)
-    ∙ ap₂ (λ h t. standsIn h t nth (at - start) (getD xs at 0)) (sym eh) (ap totalOf (sym eh) ∙ sym et)
-    ∙ sym e
+use Rattle.share.proofs.reading.first_wrong.Reads as reads
+use Rattle.share.proofs.reading.first_wrong.Lts as lts
+use Rattle.share.proofs.reading.letters_after.Reads as letters-after-reads
+use Rattle.share.proofs.reading.past_full_blocks.Reads as past-full-blocks-reads
+use Rattle.share.proofs.reading.stands_in.Reads as stands-in-reads
+use Rattle.share.proofs.records.lesser.Reads as lesser-reads
+use Rattle.share.proofs.records.record_size.Reads as record-size-reads
 
 -- every byte so far stands
 abbrev SoFar : List ℕ → ℕ → Type 0
 SoFar xs at = (p : ℕ) → p < at → stands xs p ≡ true
+
+module _ (xs : List ℕ) (h : Head) (T : ℕ) (eh : h ≡ headIn xs) (et : T ≡ totalOf h) (nth start end at : ℕ) (w : Inside (length xs) nth start end at) where
+  -- a byte of the record is tested by its offset
+  tested : (p : ℕ) → start ≤ p → p < end → stands xs p ≡ standsIn h T nth (p - start) (getD xs p 0)
+  tested p lo hi =
+      stands-placed xs nth (p - start) p (omega arith) (omega arith)
+      ∙ ap₂ (λ h t. standsIn h t nth (p - start) (getD xs p 0)) (sym eh) (ap totalOf (sym eh) ∙ sym et)
+
+  -- past a byte that stands and the letters after it
+  further :
+      (count next : ℕ) → at < end → SoFar xs at → standsIn h T nth (at - start) (getD xs at 0) ≡ true → Skips T nth (at - start) count
+      → next ≤ at + 1 + count → next ≤ end → SoFar xs next
+  further count next inside so-far here skips reach fits p l =
+      ⊎-elim
+      (λ later.
+      ⊎-elim (λ now. let e : p ≡ at = omega arith in rw e (tested at (w .from) inside ∙ here))
+      (λ after. tested p (omega (arith, w .from)) (omega arith) ∙ skips .any h (p - start) (getD xs p 0) (omega (arith, w .from)) (omega (arith, w .from)))
+      (le-or-lt p at))
+      (so-far p) (le-or-lt at p)
+
+  -- past the record and the full blocks after it
+  beyond : (e : ℕ) → end ≤ at → SoFar xs at → FullBlocks xs T nth e → SoFar xs (at + (e - nth) * 65)
+  beyond e done so-far full p l =
+      ⊎-elim
+      (λ later.
+      let some : nth < e = omega arith in
+      let here = at-block (length xs) nth start end at w done e some (full .there some) in
+      full-stand xs nth e p (rw (sym (et ∙ ap totalOf eh)) full) (omega arith) (omega arith))
+      (so-far p) (le-or-lt at p)
 
 abbrev Inv-loop : tie.InvT-loop
 Inv-loop share head letters at₀ nth start end at = Inside (length share) nth start end at × SoFar share at
@@ -70,30 +100,64 @@ stands-in-requires c κs =
     let s = c .before .before .before .before .before .before .before .before in
     (omega (arith, total-at-most (s .args .head)), offset-small _ _ _ _ _ (c .before .before .loop .inv .0) (c .before .loop-test .taken))
 
-add-at : tie.Need-add-at Inv-loop μ-loop Inv-records μ-records
-add-at c = omega arith
+add-lesser-2 : tie.Need-add-lesser-2 Inv-loop μ-loop Inv-records μ-records
+add-lesser-2 c = omega arith
+
+sub-letters-after : tie.Need-sub-letters-after Inv-loop μ-loop Inv-records μ-records
+sub-letters-after c = omega arith
+
+letters-after-requires : tie.Need-letters-after-requires Inv-loop μ-loop Inv-records μ-records
+letters-after-requires c κs = let s = c .before .before .before .before .before .before .before .before .before .before in omega (arith, total-at-most (s .args .head))
+
+add-lesser-3 : tie.Need-add-lesser-3 Inv-loop μ-loop Inv-records μ-records
+add-lesser-3 c = omega (arith, c .letters-after .ensures .few)
+
+lesser-requires-2 : tie.Need-lesser-requires-2 Inv-loop μ-loop Inv-records μ-records
+lesser-requires-2 c κs = search needs
 
 loop-less : tie.Need-loop-less Inv-loop μ-loop Inv-records μ-records
-loop-less c = omega arith
+loop-less c = omega (arith, c .lesser2 .ensures)
 
 loop-again : tie.Need-loop-again Inv-loop μ-loop Inv-records μ-records
 loop-again c =
-    let l = c .before .before .before .before in
+    let l = c .before .before .before .before .before .before in
     let s = l .before .before .before .before .before .before in
     let w = l .loop .inv .0 in
-    let t = c .before .before .before .loop-test .taken in (
-      step _ _ _ _ _ w t,
-      one-more _ (l .loop .inv .1) (tested _ _ _ _ _ _ _ _ (s .pre .0) (s .pre .1) w t (c .before .stands-in .ensures) ∙ not-false _ (c .if1 .left)),
+    let t = c .before .before .before .before .before .loop-test .taken in
+    let k = c .lesser2 .ensures in (
+      stride _ _ _ _ _ _ w (omega (arith, k)) (omega (arith, k)),
+      further _ _ _ (s .pre .0) (s .pre .1) _ _ _ _ w _ _ t (l .loop .inv .1)
+          (sym (c .before .before .before .stands-in .ensures) ∙ not-false _ (c .before .before .if1 .left)) (c .before .letters-after .ensures) (omega (arith, k)) (omega (arith, k)),
     )
 
+past-full-blocks-requires :
+    tie.Need-past-full-blocks-requires Inv-loop μ-loop Inv-records μ-records
+past-full-blocks-requires c κs = search needs
+
+sub-at : tie.Need-sub-at Inv-loop μ-loop Inv-records μ-records
+sub-at c = c .past-full-blocks .ensures .on
+
+mul-at : tie.Need-mul-at Inv-loop μ-loop Inv-records μ-records
+mul-at c =
+    let f = c .past-full-blocks .ensures in let b = pass _ _ _ _ _ (c .before .before .loop .inv .0) (c .before .loop-test .left) _ (f .on) (f .there) in omega (arith, b .within)
+
+add-at : tie.Need-add-at Inv-loop μ-loop Inv-records μ-records
+add-at c =
+    let f = c .past-full-blocks .ensures in let b = pass _ _ _ _ _ (c .before .before .loop .inv .0) (c .before .loop-test .left) _ (f .on) (f .there) in omega (arith, b .within)
+
 add-nth : tie.Need-add-nth Inv-loop μ-loop Inv-records μ-records
-add-nth c = omega (arith, c .before .loop .inv .0)
+add-nth c =
+    let f = c .past-full-blocks .ensures in let b = pass _ _ _ _ _ (c .before .before .loop .inv .0) (c .before .loop-test .left) _ (f .on) (f .there) in omega (arith, b .within, b .few)
 
 records-less : tie.Need-records-less Inv-loop μ-loop Inv-records μ-records
-records-less c = omega (arith, c .before .loop .inv .0)
+records-less c = omega (arith, c .before .before .loop .inv .0)
 
 records-again : tie.Need-records-again Inv-loop μ-loop Inv-records μ-records
-records-again c = (leave _ _ _ _ _ (c .before .loop .inv .0) (c .loop-test .left), c .before .loop .inv .1)
+records-again c =
+    let s = c .before .before .before .before .before .before .before .before in
+    let l = c .before .before .loop in
+    let f = c .past-full-blocks .ensures in
+    (pass _ _ _ _ _ (l .inv .0) (c .before .loop-test .left) _ (f .on) (f .there), beyond _ _ _ (s .pre .0) (s .pre .1) _ _ _ _ (l .inv .0) _ (c .before .loop-test .left) (l .inv .1) f)
 
 returns : tie.Need-returns Inv-loop μ-loop Inv-records μ-records
 returns c =
@@ -110,7 +174,8 @@ returns-2 c =
       before = l .loop .inv .1;
       wrong =
           λ h.
-          tested _ _ _ _ _ _ _ _ (s .pre .0) (s .pre .1) w (c .before .before .before .loop-test .taken) (c .before .stands-in .ensures)
+          tested _ _ _ (s .pre .0) (s .pre .1) _ _ _ _ w _ (w .from) (c .before .before .before .loop-test .taken)
+          ∙ sym (c .before .stands-in .ensures)
           ∙ not-true _ (c .if1 .taken);
     }
 
@@ -130,9 +195,17 @@ first-wrong-spec =
     sub-stands-in
     shared-slice-read-stands-in
     stands-in-requires
-    add-at
+    add-lesser-2
+    sub-letters-after
+    letters-after-requires
+    add-lesser-3
+    lesser-requires-2
     loop-less
     loop-again
+    past-full-blocks-requires
+    sub-at
+    mul-at
+    add-at
     add-nth
     records-less
     records-again
