@@ -19,8 +19,8 @@ use Rattle.share.specs.declared.Head.{Head}
 use Rattle.share.specs.Share.{headRecord, endRecord, shareOf, ShareOf, Bytes}
 use Rattle.share.specs.Places.{totalIn, headIn, totalOf, headTests, sizeFor, blockKind, blockByte, blockStands, letterIn, standsIn, stands, recordAt, offsetAt}
 use Rattle.share.proofs.LaidOut.{in-head, in-blocks, in-end, share-length}
-use Rattle.share.proofs.Heads.{each-offset, total-of}
-use Rattle.share.proofs.Standing.{head, block, end, place-of, stands-head, stands-block, stands-end, own-stand}
+use Rattle.share.proofs.HeadOffsets.{each-offset, total-of}
+use Rattle.share.proofs.Stands.{head, block, end, place-of, stands-head, stands-block, stands-end, own-stand}
 
 -- every byte stands
 abbrev pub Accepted : List ℕ → Type 0

@@ -18,8 +18,8 @@ use Rattle.group.proofs.Sizes.{node-at-most}
 use Rattle.share.specs.Share.{endRecord, ShareOf, Bytes}
 use Rattle.share.specs.Judgment.{CanStand}
 use Rattle.share.specs.Places.{totalIn, pair, headIn, totalOf, headTests, sizeFor, blockKind, blockStands, stands}
-use Rattle.share.proofs.Heads.{each-offset, total-of}
-use Rattle.share.proofs.Standing.{head, block, end, place-of, stands-head, stands-block, stands-end, stands-not, letter-stands}
+use Rattle.share.proofs.HeadOffsets.{each-offset, total-of}
+use Rattle.share.proofs.Stands.{head, block, end, place-of, stands-head, stands-block, stands-end, stands-not, letter-stands}
 use Rattle.share.proofs.Accepted.{Accepted, accepted-next, head-with, node-in, share-in, ownLetters}
 
 -- a byte that can stand after p bytes of a head: the least number that is allowed

@@ -15,8 +15,8 @@ use Rattle.group.proofs.Refusals.{both-no}
 use Rattle.share.specs.Share.{kindHead, Bytes}
 use Rattle.share.specs.Judgment.{CanStand, Offends}
 use Rattle.share.specs.Places.{pair, headIn, headTests, stands}
-use Rattle.share.proofs.Heads.{each-offset}
-use Rattle.share.proofs.Standing.{stands-head}
+use Rattle.share.proofs.HeadOffsets.{each-offset}
+use Rattle.share.proofs.Stands.{stands-head}
 use Rattle.share.proofs.Judgments.{offends-if, wrong-if, stands-before, nothing-stands, not-both}
 
 -- x is none of lo..hi

@@ -14,7 +14,7 @@ use Rattle.share.specs.Share.{ShareOf, Bytes}
 use Rattle.share.specs.Judgment.{IsShare, IsBeginning, IsNeither, CanStand, Offends}
 use Rattle.share.specs.Places.{totalIn, headIn, totalOf, sizeFor, stands}
 use Rattle.share.proofs.LaidOut.{in-blocks, share-length}
-use Rattle.share.proofs.Heads.{head-of, total-of}
+use Rattle.share.proofs.HeadOffsets.{head-of, total-of}
 use Rattle.share.proofs.Accepted.{Accepted, accepted-before, share-accepted, same-stands, head-with, ownLetters}
 use Rattle.share.proofs.Completing.{can-stand, whole-share}
 

@@ -2,9 +2,9 @@
 pub mod Laying
 pub mod LaidOut
 pub mod Blocks
-pub mod Heads
+pub mod HeadOffsets
 pub mod Places
-pub mod Standing
+pub mod Stands
 pub mod Accepted
 pub mod Completing
 pub mod Judgments

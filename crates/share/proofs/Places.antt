@@ -8,7 +8,7 @@ use native.Mathlib.Nat.{zero-add}
 use native.Mathlib.Numerals.{add-one}
 use native.Mathlib.Omega.{arith}
 use lib.Dec.{ltb, eqb}
-use lib.ListN.{length, getD, List·getD-eq-default}
+use lib.ListN.{getD, List·getD-eq-default}
 use Rattle.letters.proofs.Cases.{le-or-lt}
 use borrow.Author.Tests.{lt-ltb, le-ltb, eq-eqb, ne-eqb}
 use Rattle.group.specs.Answers.{ifFine}
@@ -17,10 +17,10 @@ use Rattle.group.specs.Lengths.{nodeLetters, blocks}
 use Rattle.group.proofs.InRange.{node-of}
 use Rattle.group.proofs.Sizes.{node-at-most}
 use Rattle.share.specs.declared.Head.{Head}
-use Rattle.share.specs.Share.{headRecord, endRecord, shareOf}
-use Rattle.share.specs.Places.{totalIn, headTests, blockKind, blockByte, blockStands, endStands, recordStands, standsIn, stands, headIn, totalOf, recordStart, recordSize, recordAt, offsetAt}
-use Rattle.share.proofs.Heads.{each-offset}
-use Rattle.share.proofs.LaidOut.{in-head, in-blocks, in-end, record-at, offset-at, head-at}
+use Rattle.share.specs.Share.{headRecord, endRecord}
+use Rattle.share.specs.Places.{totalIn, headTests, blockKind, blockStands, endStands, recordStands, standsIn, stands, headIn, totalOf, recordStart, recordSize, recordAt, offsetAt}
+use Rattle.share.proofs.HeadOffsets.{each-offset}
+use Rattle.share.proofs.LaidOut.{record-at, offset-at, head-at}
 
 -- a number that isn't 0 is one more than another
 pub one-past : (n : ℕ) → (n ≡ 0 → ⊥) → n ≡ suc (n - 1)

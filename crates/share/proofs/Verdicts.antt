@@ -18,7 +18,7 @@ use Rattle.share.specs.Places.{totalIn, headIn, totalOf, sizeFor}
 use Rattle.share.specs.Reading.{Stops, Copied, judgmentAt}
 use Rattle.share.specs.Calls.{numberOf, headOf, noHead, Judges, Reads}
 use Rattle.group.proofs.Refusals.{numbered}
-use Rattle.share.proofs.Heads.{total-of}
+use Rattle.share.proofs.HeadOffsets.{total-of}
 use Rattle.share.proofs.Accepted.{Accepted, ownLetters}
 use Rattle.share.proofs.Completing.{whole-share}
 use Rattle.share.proofs.Judgments.{is-beginning, offends-if, offends-neither, share-size, share-head, letter-byte}

@@ -1,4 +1,4 @@
--- Going through a share record by record and byte by byte, as its reader and its writer do.
+-- Going through a share record by record and byte by byte, as its reader does.
 use mathlib.Core.Path.{_≡_, refl, _∙_}
 use mathlib.Core.Logic.{⊎-elim}
 use Prim.Native.Nat.{ℕ, min, _+_, _-_, _*_, _≤_, _<_}
@@ -83,16 +83,6 @@ module _ (count nth start end at : ℕ) (w : Inside count nth start end at) (don
           let fits = there h in
           record { within = omega arith; begins = λ l. omega (arith, start-of-block e); few = omega arith }
 
--- the byte at hand stands at an offset of the record
-pub offset-inside : (count nth start end at : ℕ) → Inside count nth start end at → at < end → at - start < recordSize nth
-offset-inside count nth start end at w h = omega arith
-
-pub place-inside : (count nth start end at : ℕ) → Inside count nth start end at → at ≡ recordStart nth + (at - start)
-place-inside count nth start end at w = omega arith
-
+-- no offset of a record is above 64
 pub offset-small : (count nth start end at : ℕ) → Inside count nth start end at → at < end → at - start < 65
 offset-small count nth start end at w h = omega (arith, size-at-most nth)
-
--- what holds of every byte passed, and of one more
-pub one-more : {P : ℕ → Type 0} (at : ℕ) → ((p : ℕ) → p < at → P p) → P at → (p : ℕ) → p < at + 1 → P p
-one-more {P} at so-far here p h = ⊎-elim (λ last. let e : p ≡ at = omega arith in rw e here) (so-far p) (le-or-lt at p)

@@ -10,7 +10,7 @@ use Rattle.group.specs.Answers.{ifFine}
 use Rattle.group.specs.Ranges.{between, longest, either, nodeRefusal}
 use Rattle.group.specs.Lengths.{nodeLetters, blocks}
 use Rattle.share.specs.declared.Head.{Head}
-use Rattle.share.specs.Share.{kindHead, kindFull, kindLast, headSize, blockSize, endSize, blockLetters, headRecord, endRecord}
+use Rattle.share.specs.Share.{kindHead, kindFull, kindLast, headSize, blockSize, endSize, blockLetters, endRecord}
 
 -- the number of two or four bytes, the least one first
 abbrev pub pair : ℕ → ℕ → ℕ

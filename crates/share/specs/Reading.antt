@@ -2,7 +2,7 @@
 use mathlib.Core.Path.{_≡_}
 use mathlib.Core.Bool.{true, false, cond}
 use mathlib.Core.List.{List}
-use Prim.Native.Nat.{ℕ, _+_, _*_, _≤_, _<_}
+use Prim.Native.Nat.{ℕ, _+_, _-_, _*_, _≤_, _<_}
 use lib.Dec.{ltb, eqb}
 use lib.ListN.{length, getD}
 use Rattle.group.specs.declared.Refusal.{Refusal}
@@ -28,10 +28,23 @@ judgmentAt h letters at count =
     cond (ltb at count) (Judgment.Refused Refusal.Malformed)
     (cond (eqb count (sizeFor letters)) (Judgment.Complete h) (Judgment.Refused Refusal.Unfinished))
 
--- so many bytes after this one in its record are letters: any byte can stand there
-pub record Skips (letters nth offset count : ℕ) : Type 0 where
+-- so many bytes after this one in its record are letters: any byte can stand there, and where there are any, zero up to the record's end
+pub record Lettered (letters nth offset count : ℕ) : Type 0 where
   pub few : count ≤ blockLetters
   pub any : (h : Head) (j byte : ℕ) → offset < j → j ≤ offset + count → standsIn h letters nth j byte ≡ true
+  pub filled : 1 ≤ count → (h : Head) (j : ℕ) → offset < j → standsIn h letters nth j 0 ≡ true
+
+-- from index a up to r all bytes are zero
+pub record Zeros (xs : List ℕ) (a end r : ℕ) : Type 0 where
+  pub on : a ≤ r
+  pub within : r ≤ end
+  pub zeros : (p : ℕ) → a ≤ p → p < r → getD xs p 0 ≡ 0
+
+-- between the byte at this index and the next one that is looked at, all bytes of the record stand
+pub record Skips (xs : List ℕ) (letters nth start at end next : ℕ) : Type 0 where
+  pub on : at < next
+  pub within : next ≤ end
+  pub stand : (h : Head) (p : ℕ) → at < p → p < next → standsIn h letters nth (p - start) (getD xs p 0) ≡ true
 
 -- from block r up to e all blocks are there, full, and of that kind
 pub record FullBlocks (xs : List ℕ) (letters r e : ℕ) : Type 0 where

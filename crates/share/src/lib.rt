@@ -1,7 +1,10 @@
 // A node's packets as stored bytes: the share, written, judged and read.
+mod heads;
 mod reading;
 mod records;
 mod runs;
+mod search;
+mod standing;
 mod writing;
 
 use group::Answer;
@@ -50,9 +53,9 @@ pub fn write(g: Group, node: usize, batch: u32, packets: &[u8], share: &mut [u8]
 pub fn judge(share: &[u8]) -> Judgment
     ensures { λ r. ⌜ Judges (now (share .entry)) (numberOf r) (headOf r) ⌝ }
 {
-    let head = reading::head_in(share);
-    let letters = reading::total(head);
-    let at = reading::first_wrong(share, head, letters);
+    let head = heads::head_in(share);
+    let letters = heads::total(head);
+    let at = search::first_wrong(share, head, letters);
     reading::judged(head, letters, at, share.len())
 }
 

@@ -1,6 +1,5 @@
 // Runs of bytes: copied from one buffer to another, and cleared. Letters go to blocks and come back from them this way.
 use crate::records;
-ghost use mathlib.Core.Path.{_≡_};
 ghost use Prim.Native.Nat.{_+_, _-_, _≤_};
 ghost use lib.ListN.{length, getD};
 ghost use Rattle.share.specs.Share.{blockLetters};

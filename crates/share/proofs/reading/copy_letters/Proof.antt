@@ -1,6 +1,6 @@
 -- `reading::copy_letters` meets its contract: after r turns the letters of r blocks are copied, and then those of the last one.
 use mathlib.Core.Path.{_≡_, refl, sym, _∙_}
-use Prim.Native.Nat.{_+_, _-_, _*_, _/_, _≤_}
+use Prim.Native.Nat.{_-_, _*_, _/_, _≤_}
 use native.Mathlib.Omega.{arith}
 use lib.ListN.{length}
 use Rattle.share.specs.Places.{letterIn}
@@ -9,10 +9,6 @@ use Rattle.share.proofs.Laying.{nothing-laid, laid-on, laid-until}
 use Rattle.share.proofs.Blocks.{letters-of-block, all-copied}
 use Rattle.share.proofs.reading.copy_letters.Statement.{statement}
 use Rattle.share.proofs.reading.copy_letters.Tie as tie
-use Rattle.share.proofs.reading.copy_letters.Reads as reads
-use Rattle.share.proofs.reading.copy_letters.Lts as lts
-use Rattle.share.proofs.runs.copy.Reads as copy-reads
-use Rattle.share.proofs.runs.copy_block.Reads as copy-block-reads
 
 abbrev Inv-loop : tie.InvT-loop
 Inv-loop share packets₀ full r₀ packets r = (full ≡ length packets₀ / 64) × (r ≤ full) × Laid packets₀ packets 0 (r * 64) (letterIn share)

@@ -7,8 +7,6 @@ use lib.Seq.{getD-set-same, getD-set-other}
 use borrow.Author.Count.{below-more}
 use Rattle.share.proofs.runs.block_at.Statement.{statement}
 use Rattle.share.proofs.runs.block_at.Tie as tie
-use Rattle.share.proofs.runs.block_at.Reads as reads
-use Rattle.share.proofs.runs.block_at.Lts as lts
 
 abbrev Inv-loop : tie.InvT-loop
 Inv-loop from start block₀ i₀ block i = (i ≤ 64) × (length block ≡ 64) × ((j : ℕ) → j < i → getD block j 0 ≡ getD from (start + j) 0)

@@ -6,8 +6,6 @@ use Rattle.share.specs.Writing.{Laid}
 use Rattle.share.proofs.Laying.{nothing-laid, laid-one, laid-until}
 use Rattle.share.proofs.runs.clear.Statement.{statement}
 use Rattle.share.proofs.runs.clear.Tie as tie
-use Rattle.share.proofs.runs.clear.Reads as reads
-use Rattle.share.proofs.runs.clear.Lts as lts
 
 abbrev Inv-loop : tie.InvT-loop
 Inv-loop to₀ at end i₀ to i = (at ≤ i) × (i ≤ end) × Laid to₀ to at i (λ p. 0)

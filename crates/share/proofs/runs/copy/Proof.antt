@@ -2,13 +2,11 @@
 use mathlib.Core.Path.{_≡_, ap}
 use Prim.Native.Nat.{ℕ, _+_, _-_, _≤_}
 use native.Mathlib.Omega.{arith}
-use lib.ListN.{length, getD}
+use lib.ListN.{getD}
 use Rattle.share.specs.Writing.{Laid}
 use Rattle.share.proofs.Laying.{nothing-laid, laid-one, laid-until}
 use Rattle.share.proofs.runs.copy.Statement.{statement}
 use Rattle.share.proofs.runs.copy.Tie as tie
-use Rattle.share.proofs.runs.copy.Reads as reads
-use Rattle.share.proofs.runs.copy.Lts as lts
 
 passed : (at i : ℕ) → i ≡ at + i - at
 passed at i = omega arith

@@ -3,10 +3,6 @@ use Rattle.share.proofs.Laying.{laid-taken}
 use borrow.Author.Needs.{needs}
 use Rattle.share.proofs.runs.copy_block.Statement.{statement}
 use Rattle.share.proofs.runs.copy_block.Tie as tie
-use Rattle.share.proofs.runs.copy_block.Reads as reads
-use Rattle.share.proofs.runs.copy_block.Lts as lts
-use Rattle.share.proofs.runs.block_at.Reads as block-at-reads
-use Rattle.share.proofs.runs.copy.Reads as copy-reads
 
 block-at-requires : tie.Need-block-at-requires
 block-at-requires c κs = search needs

@@ -3,12 +3,6 @@ use Rattle.share.proofs.Blocks.{share-laid}
 use borrow.Author.Needs.{needs}
 use Rattle.share.proofs.writing.fill.Statement.{statement}
 use Rattle.share.proofs.writing.fill.Tie as tie
-use Rattle.share.proofs.writing.fill.Reads as reads
-use Rattle.share.proofs.writing.fill.Lts as lts
-use Rattle.share.proofs.writing.put_end.Reads as put-end-reads
-use Rattle.share.proofs.writing.put_full_blocks.Reads as put-full-blocks-reads
-use Rattle.share.proofs.writing.put_head.Reads as put-head-reads
-use Rattle.share.proofs.writing.put_last_block.Reads as put-last-block-reads
 
 put-head-requires : tie.Need-put-head-requires
 put-head-requires c κs = search needs

@@ -10,10 +10,6 @@ use Rattle.share.specs.Writing.{Laid}
 use Rattle.share.proofs.Laying.{nothing-laid, laid-one, laid-until}
 use Rattle.share.proofs.writing.put_end.Statement.{statement}
 use Rattle.share.proofs.writing.put_end.Tie as tie
-use Rattle.share.proofs.writing.put_end.Reads as reads
-use Rattle.share.proofs.writing.put_end.Lts as lts
-use Rattle.share.proofs.records.blocks_of.Reads as blocks-of-reads
-use Rattle.share.proofs.records.end_byte.Reads as end-byte-reads
 
 offset : (start front i : ℕ) → start ≡ front → i ≡ start + i - front
 offset start front i e = omega arith

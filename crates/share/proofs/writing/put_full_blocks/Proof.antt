@@ -3,16 +3,12 @@ use mathlib.Core.Path.{_≡_, refl, sym}
 use Prim.Native.Nat.{_+_, _-_, _*_, _/_, _≤_}
 use native.Mathlib.Omega.{arith}
 use lib.ListN.{length, length-set}
-use borrow.Author.Needs.{needs}
 use borrow.Author.Tests.{le-leb}
 use Rattle.share.specs.Writing.{Laid, blocksByte}
 use Rattle.share.proofs.Laying.{nothing-laid, laid-on, laid-until}
 use Rattle.share.proofs.Blocks.{block-laid}
 use Rattle.share.proofs.writing.put_full_blocks.Statement.{statement}
 use Rattle.share.proofs.writing.put_full_blocks.Tie as tie
-use Rattle.share.proofs.writing.put_full_blocks.Reads as reads
-use Rattle.share.proofs.writing.put_full_blocks.Lts as lts
-use Rattle.share.proofs.runs.copy_block.Reads as copy-block-reads
 
 abbrev Inv-loop : tie.InvT-loop
 Inv-loop packets share₀ full r₀ share r = (full ≡ length packets / 64) × (r ≤ full) × Laid share₀ share 11 (11 + r * 65) (blocksByte packets)

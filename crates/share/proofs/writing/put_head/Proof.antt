@@ -9,9 +9,6 @@ use Rattle.share.specs.Writing.{Laid}
 use Rattle.share.proofs.Laying.{nothing-laid, laid-one, laid-until}
 use Rattle.share.proofs.writing.put_head.Statement.{statement}
 use Rattle.share.proofs.writing.put_head.Tie as tie
-use Rattle.share.proofs.writing.put_head.Reads as reads
-use Rattle.share.proofs.writing.put_head.Lts as lts
-use Rattle.share.proofs.writing.head_byte.Reads as head-byte-reads
 
 abbrev Inv-loop : tie.InvT-loop
 Inv-loop head share₀ at₀ share at = (at ≤ 11) × Laid share₀ share 0 at (λ p. getD (headRecord head) p 0)

@@ -2,15 +2,10 @@
 use mathlib.Core.Path.{refl, _∙_}
 use native.Mathlib.Omega.{arith}
 use lib.ListN.{length-set}
-use Rattle.share.proofs.Laying.{nothing-laid}
 use Rattle.share.proofs.Blocks.{last-laid}
 use borrow.Author.Needs.{needs}
 use Rattle.share.proofs.writing.put_last_block.Statement.{statement}
 use Rattle.share.proofs.writing.put_last_block.Tie as tie
-use Rattle.share.proofs.writing.put_last_block.Reads as reads
-use Rattle.share.proofs.writing.put_last_block.Lts as lts
-use Rattle.share.proofs.runs.clear.Reads as clear-reads
-use Rattle.share.proofs.runs.copy.Reads as copy-reads
 
 mul-left : tie.Need-mul-left
 mul-left c = search needs

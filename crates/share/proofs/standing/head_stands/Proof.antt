@@ -1,10 +1,10 @@
--- `reading::head_stands` meets its contract: the arms are the tests of the definition's list, and what has no arm has no test.
+-- `standing::head_stands` meets its contract: the arms are the tests of the definition's list, and what has no arm has no test.
 use mathlib.Core.Path.{sym, ap, _∙_}
 use Rattle.group.specs.Ranges.{between, lengthInRange}
 use Rattle.share.proofs.Places.{untested}
 use borrow.Author.Needs.{needs}
-use Rattle.share.proofs.reading.head_stands.Statement.{statement}
-use Rattle.share.proofs.reading.head_stands.Tie as tie
+use Rattle.share.proofs.standing.head_stands.Statement.{statement}
+use Rattle.share.proofs.standing.head_stands.Tie as tie
 
 within-requires : tie.Need-within-requires
 within-requires c κs = search needs

@@ -1,10 +1,10 @@
--- `reading::byte_at` meets its contract: past the end the list's own default is 0.
+-- `heads::byte_at` meets its contract: past the end the list's own default is 0.
 use mathlib.Core.Path.{refl, sym}
 use native.Mathlib.Omega.{arith}
 use lib.ListN.{List·getD-eq-default}
 use borrow.Author.Needs.{needs}
-use Rattle.share.proofs.reading.byte_at.Statement.{statement}
-use Rattle.share.proofs.reading.byte_at.Tie as tie
+use Rattle.share.proofs.heads.byte_at.Statement.{statement}
+use Rattle.share.proofs.heads.byte_at.Tie as tie
 
 returns : tie.Need-returns
 returns c = (sym (List·getD-eq-default (c .before .args .share .now) 0 (c .if1 .taken)), omega arith)

@@ -1,9 +1,9 @@
--- `reading::record_stands` meets its contract: the tests are the definition's own.
+-- `standing::record_stands` meets its contract: the tests are the definition's own.
 use Rattle.share.proofs.Places.{record-block, record-end, record-none}
 use mathlib.Core.Path.{sym, _∙_}
 use borrow.Author.Needs.{needs}
-use Rattle.share.proofs.reading.record_stands.Statement.{statement}
-use Rattle.share.proofs.reading.record_stands.Tie as tie
+use Rattle.share.proofs.standing.record_stands.Statement.{statement}
+use Rattle.share.proofs.standing.record_stands.Tie as tie
 
 blocks-of-requires : tie.Need-blocks-of-requires
 blocks-of-requires c κs = search needs

@@ -1,4 +1,4 @@
--- `reading::end_stands` meets its contract: past the fifth byte nothing stands, and before it the end's own byte does.
+-- `standing::end_stands` meets its contract: past the fifth byte nothing stands, and before it the end's own byte does.
 use Prim.Native.Nat.{_≤_, _<_}
 use mathlib.Core.Path.{ap, _∙_}
 use native.Mathlib.Omega.{arith}
@@ -6,8 +6,8 @@ use borrow.Author.Tests.{lt-ltb, le-ltb}
 use lib.Dec.{eqb}
 use Rattle.share.specs.Places.{endStands}
 use borrow.Author.Needs.{needs}
-use Rattle.share.proofs.reading.end_stands.Statement.{statement}
-use Rattle.share.proofs.reading.end_stands.Tie as tie
+use Rattle.share.proofs.standing.end_stands.Statement.{statement}
+use Rattle.share.proofs.standing.end_stands.Tie as tie
 
 returns : tie.Need-returns
 unfolding endStands

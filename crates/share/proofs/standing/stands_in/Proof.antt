@@ -1,10 +1,10 @@
--- `reading::stands_in` meets its contract: record 0 is the head, and the others count from 1.
+-- `standing::stands_in` meets its contract: record 0 is the head, and the others count from 1.
 use mathlib.Core.Path.{sym, _∙_}
 use Rattle.share.specs.Places.{standsIn}
 use Rattle.share.proofs.Places.{stands-past-head}
 use borrow.Author.Needs.{needs}
-use Rattle.share.proofs.reading.stands_in.Statement.{statement}
-use Rattle.share.proofs.reading.stands_in.Tie as tie
+use Rattle.share.proofs.standing.stands_in.Statement.{statement}
+use Rattle.share.proofs.standing.stands_in.Tie as tie
 
 head-stands-requires : tie.Need-head-stands-requires
 head-stands-requires c κs = search needs

@@ -1,5 +1,5 @@
--- `reading::past_full_blocks` meets its contract: every block passed is within the bytes and the full blocks, and has its kind.
-use mathlib.Core.Path.{_≡_, refl}
+-- `search::past_full_blocks` meets its contract: every block passed is within the bytes and the full blocks, and has its kind.
+use mathlib.Core.Path.{_≡_}
 use Prim.Native.Nat.{ℕ, _+_, _-_, _*_, _/_, _≤_, _<_, min}
 use native.Mathlib.Omega.{arith}
 use lib.ListN.{length, getD}
@@ -7,11 +7,8 @@ use mathlib.Core.Logic.{⊎-elim}
 use borrow.Author.Needs.{needs}
 use Rattle.letters.proofs.Cases.{le-or-lt}
 use Rattle.share.proofs.Skipping.{full-blocks}
-use Rattle.share.proofs.reading.past_full_blocks.Statement.{statement}
-use Rattle.share.proofs.reading.past_full_blocks.Tie as tie
-use Rattle.share.proofs.reading.past_full_blocks.Reads as reads
-use Rattle.share.proofs.reading.past_full_blocks.Lts as lts
-use Rattle.share.proofs.records.lesser.Reads as lesser-reads
+use Rattle.share.proofs.search.past_full_blocks.Statement.{statement}
+use Rattle.share.proofs.search.past_full_blocks.Tie as tie
 
 abbrev Inv-loop : tie.InvT-loop
 Inv-loop share letters r whole most e₀ e = (11 ≤ length share) × (most ≡ min ((length share - 11) / 65) (letters / 64)) × (r ≤ e) × (r < e → e ≤ most) × ((q : ℕ) → r ≤ q → q < e → getD share (11 + q * 65) 0 ≡ 2)

@@ -1,8 +1,8 @@
--- `reading::head_in` meets its contract: the definition reads the same bytes.
+-- `heads::head_in` meets its contract: the definition reads the same bytes.
 use Rattle.share.specs.Places.{headIn}
 use borrow.Author.Needs.{needs}
-use Rattle.share.proofs.reading.head_in.Statement.{statement}
-use Rattle.share.proofs.reading.head_in.Tie as tie
+use Rattle.share.proofs.heads.head_in.Statement.{statement}
+use Rattle.share.proofs.heads.head_in.Tie as tie
 
 byte-at-requires : tie.Need-byte-at-requires
 byte-at-requires c κs = search needs

@@ -1,10 +1,10 @@
--- `reading::total` meets its contract: the answer's value is T, and a refusal carries 0.
+-- `heads::total` meets its contract: the answer's value is T, and a refusal carries 0.
 use mathlib.Core.Path.{sym, ap, _∙_}
 use Rattle.group.specs.Answers.{valueOf}
 use Rattle.share.specs.Places.{totalOf}
 use borrow.Author.Needs.{needs}
-use Rattle.share.proofs.reading.total.Statement.{statement}
-use Rattle.share.proofs.reading.total.Tie as tie
+use Rattle.share.proofs.heads.total.Statement.{statement}
+use Rattle.share.proofs.heads.total.Tie as tie
 
 packet-letters-requires : tie.Need-packet-letters-requires
 packet-letters-requires c κs = search needs

@@ -1,7 +1,7 @@
--- `reading::first_wrong` meets its contract: every byte passed stands, looked at or stepped over, and the byte at which the loops are
+-- `search::first_wrong` meets its contract: every byte passed stands, looked at or stepped over, and the byte at which the loops are
 -- left by their label doesn't, since the offset in its record tells its test.
 use mathlib.Core.Path.{_≡_, sym, ap, ap₂, _∙_}
-use mathlib.Core.Bool.{Bool, true}
+use mathlib.Core.Bool.{true}
 use mathlib.Core.List.{List}
 use mathlib.Core.Logic.{⊎-elim}
 use Prim.Native.Nat.{ℕ, _+_, _-_, _*_, _≤_, _<_}
@@ -16,15 +16,8 @@ use Rattle.share.specs.Reading.{Skips, FullBlocks}
 use Rattle.share.proofs.Places.{stands-placed, size-at-most, total-at-most}
 use Rattle.share.proofs.Walk.{Between, Inside, outset, enter, stride, at-block, pass, offset-small}
 use Rattle.share.proofs.Skipping.{full-stand}
-use Rattle.share.proofs.reading.first_wrong.Statement.{statement}
-use Rattle.share.proofs.reading.first_wrong.Tie as tie
-use Rattle.share.proofs.reading.first_wrong.Reads as reads
-use Rattle.share.proofs.reading.first_wrong.Lts as lts
-use Rattle.share.proofs.reading.letters_after.Reads as letters-after-reads
-use Rattle.share.proofs.reading.past_full_blocks.Reads as past-full-blocks-reads
-use Rattle.share.proofs.reading.stands_in.Reads as stands-in-reads
-use Rattle.share.proofs.records.lesser.Reads as lesser-reads
-use Rattle.share.proofs.records.record_size.Reads as record-size-reads
+use Rattle.share.proofs.search.first_wrong.Statement.{statement}
+use Rattle.share.proofs.search.first_wrong.Tie as tie
 
 -- every byte so far stands
 abbrev SoFar : List ℕ → ℕ → Type 0
@@ -37,15 +30,14 @@ module _ (xs : List ℕ) (h : Head) (T : ℕ) (eh : h ≡ headIn xs) (et : T ≡
       stands-placed xs nth (p - start) p (omega arith) (omega arith)
       ∙ ap₂ (λ h t. standsIn h t nth (p - start) (getD xs p 0)) (sym eh) (ap totalOf (sym eh) ∙ sym et)
 
-  -- past a byte that stands and the letters after it
+  -- past a byte that stands and what is stepped over after it
   further :
-      (count next : ℕ) → at < end → SoFar xs at → standsIn h T nth (at - start) (getD xs at 0) ≡ true → Skips T nth (at - start) count
-      → next ≤ at + 1 + count → next ≤ end → SoFar xs next
-  further count next inside so-far here skips reach fits p l =
+      (next : ℕ) → at < end → SoFar xs at → standsIn h T nth (at - start) (getD xs at 0) ≡ true → Skips xs T nth start at end next → SoFar xs next
+  further next inside so-far here skips p l =
       ⊎-elim
       (λ later.
       ⊎-elim (λ now. let e : p ≡ at = omega arith in rw e (tested at (w .from) inside ∙ here))
-      (λ after. tested p (omega (arith, w .from)) (omega arith) ∙ skips .any h (p - start) (getD xs p 0) (omega (arith, w .from)) (omega (arith, w .from)))
+      (λ after. tested p (omega (arith, w .from)) (omega (arith, skips .within)) ∙ skips .stand h p after l)
       (le-or-lt p at))
       (so-far p) (le-or-lt at p)
 
@@ -100,34 +92,25 @@ stands-in-requires c κs =
     let s = c .before .before .before .before .before .before .before .before in
     (omega (arith, total-at-most (s .args .head)), offset-small _ _ _ _ _ (c .before .before .loop .inv .0) (c .before .loop-test .taken))
 
-add-lesser-2 : tie.Need-add-lesser-2 Inv-loop μ-loop Inv-records μ-records
-add-lesser-2 c = omega arith
-
-sub-letters-after : tie.Need-sub-letters-after Inv-loop μ-loop Inv-records μ-records
-sub-letters-after c = omega arith
-
-letters-after-requires : tie.Need-letters-after-requires Inv-loop μ-loop Inv-records μ-records
-letters-after-requires c κs = let s = c .before .before .before .before .before .before .before .before .before .before in omega (arith, total-at-most (s .args .head))
-
-add-lesser-3 : tie.Need-add-lesser-3 Inv-loop μ-loop Inv-records μ-records
-add-lesser-3 c = omega (arith, c .letters-after .ensures .few)
-
-lesser-requires-2 : tie.Need-lesser-requires-2 Inv-loop μ-loop Inv-records μ-records
-lesser-requires-2 c κs = search needs
+next-tested-requires : tie.Need-next-tested-requires Inv-loop μ-loop Inv-records μ-records
+next-tested-requires c κs =
+    let s = c .before .before .before .before .before .before .before .before .before .before in
+    let w = c .before .before .before .before .loop .inv .0 in
+    (omega (arith, total-at-most (s .args .head)), w .from, c .before .before .before .loop-test .taken, w .fits)
 
 loop-less : tie.Need-loop-less Inv-loop μ-loop Inv-records μ-records
-loop-less c = omega (arith, c .lesser2 .ensures)
+loop-less c = omega (arith, c .next-tested .ensures .on, c .next-tested .ensures .within)
 
 loop-again : tie.Need-loop-again Inv-loop μ-loop Inv-records μ-records
 loop-again c =
-    let l = c .before .before .before .before .before .before in
+    let l = c .before .before .before .before .before in
     let s = l .before .before .before .before .before .before in
     let w = l .loop .inv .0 in
-    let t = c .before .before .before .before .before .loop-test .taken in
-    let k = c .lesser2 .ensures in (
-      stride _ _ _ _ _ _ w (omega (arith, k)) (omega (arith, k)),
-      further _ _ _ (s .pre .0) (s .pre .1) _ _ _ _ w _ _ t (l .loop .inv .1)
-          (sym (c .before .before .before .stands-in .ensures) ∙ not-false _ (c .before .before .if1 .left)) (c .before .letters-after .ensures) (omega (arith, k)) (omega (arith, k)),
+    let t = c .before .before .before .before .loop-test .taken in
+    let k = c .next-tested .ensures in (
+      stride _ _ _ _ _ _ w (omega (arith, k .on)) (k .within),
+      further _ _ _ (s .pre .0) (s .pre .1) _ _ _ _ w _ t (l .loop .inv .1)
+          (sym (c .before .before .stands-in .ensures) ∙ not-false _ (c .before .if1 .left)) k,
     )
 
 past-full-blocks-requires :
@@ -195,11 +178,7 @@ first-wrong-spec =
     sub-stands-in
     shared-slice-read-stands-in
     stands-in-requires
-    add-lesser-2
-    sub-letters-after
-    letters-after-requires
-    add-lesser-3
-    lesser-requires-2
+    next-tested-requires
     loop-less
     loop-again
     past-full-blocks-requires

@@ -1,7 +1,7 @@
--- `reading::within` meets its contract: the two tests are the definition's own.
+-- `standing::within` meets its contract: the two tests are the definition's own.
 use borrow.Author.Tests.{le-leb, lt-leb}
-use Rattle.share.proofs.reading.within.Statement.{statement}
-use Rattle.share.proofs.reading.within.Tie as tie
+use Rattle.share.proofs.standing.within.Statement.{statement}
+use Rattle.share.proofs.standing.within.Tie as tie
 
 returns : tie.Need-returns
 returns c = simp (le-leb _ _ (c .if1 .taken))

@@ -17,7 +17,7 @@ use Rattle.share.specs.declared.Head.{Head}
 use Rattle.share.specs.Share.{endRecord, shareOf}
 use Rattle.share.specs.Places.{totalIn, headIn, totalOf, headTests, sizeFor, blockKind, blockByte, blockStands, endStands, recordStands, standsIn, stands}
 use Rattle.share.proofs.LaidOut.{in-blocks, in-end, record-at, offset-at, head-at}
-use Rattle.share.proofs.Heads.{each-offset, head-of, total-of}
+use Rattle.share.proofs.HeadOffsets.{each-offset, head-of, total-of}
 
 -- a place is in the head, in a block, or past the blocks
 pub data Place (letters p : ℕ) : Type 0 where
