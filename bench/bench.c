@@ -1,12 +1,20 @@
-/* Each call of the library beside its plain C version, on the same letters, compared. Under valgrind's callgrind every call's instructions are
- * dumped under its name; otherwise each is timed. bench/run makes the table. */
+/* Each call of the library beside its plain C version, on the same letters, compared. With the word `time` each is timed; with `count`, under
+ * valgrind's callgrind or under bench/count.c, its instructions are counted. bench/run makes the table. */
 #include "../include/dulvaspen.h"
 #include "plain.h"
 #include <stdio.h>
 #include <stdlib.h>
 #include <string.h>
 #include <time.h>
+#include <unistd.h>
+#ifdef EMULATED /* bench/count.c counts: a mark before the call and one after it */
+#define BEFORE_CALL() mark(2 * measured)
+#define AFTER_CALL(NAME) do { mark(2 * measured + 1); printf("marked %llu %s\n", (unsigned long long)measured++, NAME); } while (0)
+#else
 #include <valgrind/callgrind.h>
+#define BEFORE_CALL() CALLGRIND_ZERO_STATS
+#define AFTER_CALL(NAME) CALLGRIND_DUMP_STATS_AT(NAME)
+#endif
 
 static uint8_t file[1 << 20], got[1 << 20], want[1 << 20], input[1 << 20], node_packets[17][1 << 17], share[1 << 17];
 static uint64_t held[17], count_ours, count_plain, head_ours[6], head_plain[6];
@@ -16,21 +24,26 @@ static void stop(const char *what, uint64_t r) { fprintf(stderr, "bench: %s went
 
 static double seconds(void) { struct timespec t; clock_gettime(CLOCK_MONOTONIC, &t); return (double)t.tv_sec + 1e-9 * (double)t.tv_nsec; }
 
-/* Runs CALL on a fresh copy of the input in BUFFER; letters is what the table divides by, and additions too where it isn't 0. */
+static int timing;
+#ifdef EMULATED
+static uint64_t measured;
+static void mark(uint64_t number) { if (write(1000, file, number) >= 0) stop("a mark", number); }
+#endif
+
+/* Runs CALL on a fresh copy of the input in BUFFER, once to count it, or 25 times to time it. */
 #define MEASURE(NAME, WHO, BUFFER, SIZE, CALL) do { \
-    uint64_t r_; memcpy(BUFFER, input, SIZE); \
-    if (RUNNING_ON_VALGRIND) { \
-        char name_[96]; snprintf(name_, sizeof name_, "%s %llu,%llu,%llu %llu %s", NAME, (unsigned long long)g.n, (unsigned long long)g.k, \
-            (unsigned long long)g.d, (unsigned long long)g.l, WHO); \
-        CALLGRIND_ZERO_STATS; r_ = (CALL); CALLGRIND_DUMP_STATS_AT(name_); \
-    } else { \
+    uint64_t r_; char name_[96]; memcpy(BUFFER, input, SIZE); \
+    snprintf(name_, sizeof name_, "%s %llu,%llu,%llu %llu %s", NAME, (unsigned long long)g.n, (unsigned long long)g.k, (unsigned long long)g.d, \
+        (unsigned long long)g.l, WHO); \
+    if (!timing) { BEFORE_CALL(); r_ = (CALL); AFTER_CALL(name_); } \
+    else { \
         double best_ = 1e9; int i_; \
         for (i_ = 0; i_ < 25; i_++) { double t_, s_; memcpy(BUFFER, input, SIZE); s_ = seconds(); r_ = (CALL); t_ = seconds() - s_; if (t_ < best_) best_ = t_; } \
-        printf("time %s %llu,%llu,%llu %llu %s %.0f\n", NAME, (unsigned long long)g.n, (unsigned long long)g.k, (unsigned long long)g.d, \
-            (unsigned long long)g.l, WHO, best_ * 1e9); \
+        printf("time %s %.0f\n", name_, best_ * 1e9); \
     } \
     if (r_) stop(NAME, r_); } while (0)
 
+/* Says the sizes that the table divides by, once got and want are the same. */
 static void compare(const char *name, uint64_t letters, uint64_t additions) {
     if (memcmp(got, want, letters)) stop(name, 99);
     printf("size %s %llu,%llu,%llu %llu %llu %llu\n", name, (unsigned long long)g.n, (unsigned long long)g.k, (unsigned long long)g.d,
@@ -84,6 +97,19 @@ static void repair(void) {
     compare("repair", g.d * length, count_ours);
 }
 
+/* The two judges must agree on every cut of a share and on every byte of it that is changed. */
+static void damage(uint64_t bytes) {
+    for (uint64_t cut = 0; cut <= bytes; cut++)
+        if (dulvaspen_judge_share(share, cut, head_ours, 6) != plain_judge(share, cut, head_plain)) stop("judging a cut share", cut);
+    for (uint64_t at = 0; at <= bytes; at++)
+        for (int change = 1; change < 256; change <<= 1) {
+            share[at] ^= (uint8_t)change;
+            uint64_t whole = at < bytes ? bytes : bytes + 1;
+            if (dulvaspen_judge_share(share, whole, head_ours, 6) != plain_judge(share, whole, head_plain)) stop("judging a changed share", at);
+            share[at] ^= (uint8_t)change;
+        }
+}
+
 static void shares(void) {
     uint64_t node = g.n / 2, bytes;
     dulvaspen_share_bytes(g.n, g.k, g.d, g.l, node, &bytes);
@@ -99,13 +125,17 @@ static void shares(void) {
     MEASURE("judge", "plain", want, bytes, plain_judge(share, bytes, head_plain));
     if (memcmp(head_ours, head_plain, sizeof head_ours)) stop("judge", 98);
     compare("judge", bytes, 0);
+    if (g.l == 64) damage(bytes);
 }
 
-int main(void) {
+int main(int argc, char **argv) {
     static const group groups[] = {{6, 3, 4, 0}, {16, 4, 6, 0}, {16, 10, 12, 0}, {16, 15, 15, 0}};
     static const uint64_t lengths[] = {64, 4096};
     uint64_t letters;
+    if (argc != 2 || (strcmp(argv[1], "time") && strcmp(argv[1], "count"))) { fprintf(stderr, "bench: say time or count\n"); return 2; }
+    timing = !strcmp(argv[1], "time");
     for (uint64_t i = 0; i < sizeof file; i++) file[i] = (uint8_t)(i * 131 + (i >> 7) * 29 + (i >> 13));
+    MEASURE("nothing", "ours", got, 0, 0);
     for (int i = 0; i < 4; i++)
         for (int j = 0; j < 2; j++) {
             g = groups[i];

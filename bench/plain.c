@@ -172,24 +172,24 @@ uint64_t plain_judge(const uint8_t *share, uint64_t share_len, uint64_t *head) {
     uint64_t node, r = judge_head(share, share_len, &g, &node);
     if (r) return r;
     uint64_t letters = node_letters(g, node), left = letters;
-    const uint8_t *at = share + 11, *end = share + share_len;
+    uint64_t at = 11;
     for (; left >= 64; left -= 64, at += 65) {
-        if (at >= end) return 7;
-        if (*at != 2) return 8;
+        if (at >= share_len) return 7;
+        if (share[at] != 2) return 8;
     }
     if (left) {
-        if (at >= end) return 7;
-        if (*at != 3) return 8;
-        for (const uint8_t *fill = at + 1 + left; fill < at + 65 && fill < end; fill++) if (*fill) return 8;
+        if (at >= share_len) return 7;
+        if (share[at] != 3) return 8;
+        for (uint64_t fill = at + 1 + left; fill < least(at + 65, share_len); fill++) if (share[fill]) return 8;
         at += 65;
     }
     uint8_t last[5] = {4};
     put(last + 1, letters, 4);
     for (int i = 0; i < 5; i++, at++) {
-        if (at >= end) return 7;
-        if (*at != last[i]) return 8;
+        if (at >= share_len) return 7;
+        if (share[at] != last[i]) return 8;
     }
-    if (at < end) return 8;
+    if (at < share_len) return 8;
     head[0] = g.n; head[1] = g.k; head[2] = g.d; head[3] = node; head[4] = g.l; head[5] = get(share + 7, 4);
     return 0;
 }

@@ -112,7 +112,7 @@ pub fn fitting(head: Head, packets: &[u8], share: &mut [u8]) -> Answer
     ensures { λ r. ⌜ Writes head (now (packets .entry)) (now (share .entry)) (fitRefusal head (length (now (packets .entry))) (length (now (share .entry)))) r (now (share .exit)) ⌝ }
 {
     let letters = lengths::node(head.group, head.node);
-    let bytes = lengths::share(head.group, head.node);
+    let bytes = records::size_for(letters);
     match checks::lengths(packets.len(), letters, share.len(), bytes) {
         Check::Refused(refusal) => Answer::Refused(refusal),
         Check::Fine => {

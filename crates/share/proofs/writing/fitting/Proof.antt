@@ -22,6 +22,11 @@ checked :
 unfolding fitRefusal
 checked h k letters bytes packets share el eb e = e ∙ ap₂ (λ l b. first (inputRefusal l packets) (outputRefusal b share)) el eb
 
+-- the share's bytes, by its letters
+bytes : (h : Head) (letters size : ℕ) → letters ≡ nodeLetters (h .group) (h .node) → size ≡ sizeFor letters → size ≡ shareBytes (h .group) (h .node)
+unfolding shareBytes
+bytes h letters size el es = es ∙ ap sizeFor el
+
 -- lengths that aren't refused are those of the node's letters and of its share
 exact :
     (h : Head) (packets share : ℕ) → fitRefusal h packets share ≡ 0
@@ -34,8 +39,9 @@ exact h packets share e =
 node-requires : tie.Need-node-requires
 node-requires c κs = search needs
 
-share-requires : tie.Need-share-requires
-share-requires c κs = search needs
+size-for-requires : tie.Need-size-for-requires
+size-for-requires c κs =
+    let s = c .before .before .before in omega (arith, c .node .ensures, node-at-most (s .args .head .group) (s .args .head .node) (s .pre))
 
 lengths-requires : tie.Need-lengths-requires
 lengths-requires c κs = search needs
@@ -50,7 +56,7 @@ fill-requires : tie.Need-fill-requires
 fill-requires c κs =
     let s = c .before .before .before .before .before .before .before .before in
     let k = c .before .before .before in
-    let e = exact (s .args .head) _ _ (fine _ _ (c .before .enum-told .given .1) (checked (s .args .head) _ _ _ _ _ (k .before .before .node .ensures) (k .before .share .ensures) (k .lengths .ensures))) in
+    let e = exact (s .args .head) _ _ (fine _ _ (c .before .enum-told .given .1) (checked (s .args .head) _ _ _ _ _ (k .before .before .node .ensures) (bytes (s .args .head) _ _ (k .before .before .node .ensures) (k .before .size-for .ensures)) (k .lengths .ensures))) in
     (s .pre, omega (arith, e .0, node-at-most (s .args .head .group) (s .args .head .node) (s .pre)), e .1)
 
 returns : tie.Need-returns
@@ -58,7 +64,7 @@ returns c =
     let s = c .before .before .before .before .before .before .before .before in
     let k = c .before .before .before in
     write-refused _ _ _ _ _
-    (stopped _ _ _ (c .before .refusal .given .1) (checked (s .args .head) _ _ _ _ _ (k .before .before .node .ensures) (k .before .share .ensures) (k .lengths .ensures)))
+    (stopped _ _ _ (c .before .refusal .given .1) (checked (s .args .head) _ _ _ _ _ (k .before .before .node .ensures) (bytes (s .args .head) _ _ (k .before .before .node .ensures) (k .before .size-for .ensures)) (k .lengths .ensures)))
 
 same-length : tie.Need-same-length
 same-length c = search needs
@@ -69,15 +75,15 @@ returns-2 c =
     let s = m .before .before .before .before .before .before .before in
     let k = m .before .before in
     write-done _ _ _ _ _ _
-    (fine _ _ (m .enum-told .given .1) (checked (s .args .head) _ _ _ _ _ (k .before .before .node .ensures) (k .before .share .ensures) (k .lengths .ensures)))
-    (k .before .share .ensures) (c .before .before .fill .ensures)
+    (fine _ _ (m .enum-told .given .1) (checked (s .args .head) _ _ _ _ _ (k .before .before .node .ensures) (bytes (s .args .head) _ _ (k .before .before .node .ensures) (k .before .size-for .ensures)) (k .lengths .ensures)))
+    (bytes (s .args .head) _ _ (k .before .before .node .ensures) (k .before .size-for .ensures)) (c .before .before .fill .ensures)
 
 pub fitting-spec : {M : Type 1} → statement M
 fitting-spec =
     tie.close
     (tie.spec
     node-requires
-    share-requires
+    size-for-requires
     lengths-requires
     enum-known-refusal
     enum-told
