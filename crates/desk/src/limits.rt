@@ -27,7 +27,7 @@ pub fn encode(g: Group, node: usize, file_letters: usize, letters: usize) -> usi
     let file = [0u8; 12288];
     let mut packets = [0u8; 8192];
     let part = lines::first(&file, file_letters);
-    lines::number_of(encode_in(g, node, part, &mut packets, letters))
+    group::answer_number(encode_in(g, node, part, &mut packets, letters))
 }
 
 // A line for a group: node 1 encoded, with the lengths that the group gives.
@@ -42,7 +42,7 @@ fn group(words: &[u8], n: usize, k: usize, d: usize, l: usize) {
 fn ids(words: &[u8], ids: &[usize]) {
     let mut buffer = [0x01u8, 0x10, 0x40];
     let answer = store::recovery::recover(crate::examples::desk(1), ids, &mut buffer);
-    verdict(words, lines::number_of(answer));
+    verdict(words, group::answer_number(answer));
 }
 
 pub fn all() {

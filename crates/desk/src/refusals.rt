@@ -39,7 +39,7 @@ fn lengths() {
 fn help(words: &[u8], helper: usize, held: &[u8]) {
     let mut piece = [0u8; 3];
     let answer = store::helping::help(examples::desk(2), 2, helper, 1, held, &mut piece);
-    limits::verdict(words, lines::number_of(answer));
+    limits::verdict(words, group::answer_number(answer));
 }
 
 // 7 and 8, of reading bytes.

@@ -6,7 +6,7 @@ use share::Judgment;
 pub fn number_of(judgment: Judgment) -> usize {
     match judgment {
         Judgment::Complete(_) => 0,
-        Judgment::Refused(refusal) => lines::refusal_number(refusal),
+        Judgment::Refused(refusal) => group::refusal_number(refusal),
     }
 }
 

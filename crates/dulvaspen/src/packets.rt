@@ -25,7 +25,7 @@ pub extern "C" fn dulvaspen_encode(
     ensures { λ r. ⌜ Fills (encodeRefusal (groupOf n k d l) node (length (now (file .entry))) (length (now (packets .entry)))) (product xors (groupOf n k d l) (now (file .entry)) node) (now (packets .entry)) (now (packets .exit)) r ⌝ }
 {
     let g = Group { n, k, d, l };
-    answers::number_of(store::encoding::encode(g, node, file, packets))
+    group::answer_number(store::encoding::encode(g, node, file, packets))
 }
 
 // Where the piece of this rank and column starts in the node's packets. Refusals: 1, 2, 3, 5 for the packets.
@@ -100,7 +100,7 @@ pub extern "C" fn dulvaspen_help(
     ensures { λ r. ⌜ Fills (helpRefusal (groupOf n k d l) lost helper rank (length (now (packets .entry))) (length (now (piece .entry)))) (helping xors (groupOf n k d l) lost helper rank (now (packets .entry))) (now (piece .entry)) (now (piece .exit)) r ⌝ }
 {
     let g = Group { n, k, d, l };
-    answers::number_of(store::helping::help(g, lost, helper, rank, packets, piece))
+    group::answer_number(store::helping::help(g, lost, helper, rank, packets, piece))
 }
 
 // The lost node's packets, in place, from d pieces. Refusals: 1, 2, 3, 4, 5 for the buffer.

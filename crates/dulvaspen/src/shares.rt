@@ -25,7 +25,7 @@ pub extern "C" fn dulvaspen_write_share(
     ensures { λ r. ⌜ Fills (writeRefusal (headFor (groupOf n k d l) node batch) (length (now (packets .entry))) (length (now (share .entry)))) (shareOf (headFor (groupOf n k d l) node batch) (now (packets .entry))) (now (share .entry)) (now (share .exit)) r ⌝ }
 {
     let g = Group { n, k, d, l };
-    answers::number_of(share::write(g, node, batch, packets, share))
+    group::answer_number(share::write(g, node, batch, packets, share))
 }
 
 // Puts a head's six numbers.
@@ -54,7 +54,7 @@ pub extern "C" fn dulvaspen_judge_share(share: &[u8], head: &mut [usize]) -> usi
             put_head(found, head);
             0
         }
-        Judgment::Refused(refusal) => answers::number(refusal),
+        Judgment::Refused(refusal) => group::refusal_number(refusal),
     }
 }
 
@@ -64,7 +64,7 @@ fn misfit(share: &[u8]) -> usize
 {
     match share::judge(share) {
         Judgment::Complete(_) => 6,
-        Judgment::Refused(refusal) => answers::number(refusal),
+        Judgment::Refused(refusal) => group::refusal_number(refusal),
     }
 }
 
@@ -85,6 +85,6 @@ pub extern "C" fn dulvaspen_read_share(
             put_head(found, head);
             0
         }
-        Judgment::Refused(refusal) => answers::number(refusal),
+        Judgment::Refused(refusal) => group::refusal_number(refusal),
     }
 }

@@ -2,8 +2,9 @@
 pub mod checks;
 pub mod lengths;
 
+ghost use mathlib.Core.Path.{_≡_};
 ghost use Prim.Native.Nat.{ℕ};
-ghost use Rattle.group.specs.Answers.{Answers};
+ghost use Rattle.group.specs.Answers.{Answers, refusalNumber, numberOf};
 ghost use Rattle.group.specs.Lengths.{fileLetters, nodeLetters, repairLetters, shareBytes};
 ghost use Rattle.group.specs.Ranges.{groupRefusal, nodeRefusal};
 
@@ -46,6 +47,32 @@ pub enum Check {
 pub enum Answer {
     Value(usize),
     Refused(Refusal),
+}
+
+// A refusal's number in document 01's table.
+pub fn refusal_number(refusal: Refusal) -> usize
+    ensures { λ r. ⌜ r ≡ refusalNumber refusal ⌝ }
+{
+    match refusal {
+        Refusal::Numbers => 1,
+        Refusal::Length => 2,
+        Refusal::Ids => 3,
+        Refusal::Order => 4,
+        Refusal::Input => 5,
+        Refusal::Output => 6,
+        Refusal::Unfinished => 7,
+        Refusal::Malformed => 8,
+    }
+}
+
+// An answer's number: 0 where nothing is refused.
+pub fn answer_number(answer: Answer) -> usize
+    ensures { λ r. ⌜ r ≡ numberOf answer ⌝ }
+{
+    match answer {
+        Answer::Value(_) => 0,
+        Answer::Refused(refusal) => refusal_number(refusal),
+    }
 }
 
 // The letters of a file, B*L. Refusals: 1, 2.

@@ -19,7 +19,5 @@ pub use words::group;
 pub use words::ids;
 pub use words::letters;
 pub use words::number;
-pub use words::number_of;
-pub use words::refusal_number;
 pub use words::say;
 pub use words::value;

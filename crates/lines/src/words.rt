@@ -1,7 +1,6 @@
 // Words, numbers and letters on standard output.
 use group::Answer;
 use group::Group;
-use group::Refusal;
 use libc::STDOUT_FILENO;
 
 pub fn say(words: &[u8]) {
@@ -73,32 +72,10 @@ pub fn value(answer: Answer) -> usize {
     }
 }
 
-// A refusal's number.
-pub fn refusal_number(refusal: Refusal) -> usize {
-    match refusal {
-        Refusal::Numbers => 1,
-        Refusal::Length => 2,
-        Refusal::Ids => 3,
-        Refusal::Order => 4,
-        Refusal::Input => 5,
-        Refusal::Output => 6,
-        Refusal::Unfinished => 7,
-        Refusal::Malformed => 8,
-    }
-}
-
-// An answer's number: 0 where nothing is refused.
-pub fn number_of(answer: Answer) -> usize {
-    match answer {
-        Answer::Value(_) => 0,
-        Answer::Refused(refusal) => refusal_number(refusal),
-    }
-}
-
 // Some words and an answer's value after them, or that it is refused, and by which number.
 pub fn answer(words: &[u8], answer: Answer) {
     match answer {
         Answer::Value(value) => number(words, value),
-        Answer::Refused(refusal) => number(b" refused ", refusal_number(refusal)),
+        Answer::Refused(refusal) => number(b" refused ", group::refusal_number(refusal)),
     }
 }

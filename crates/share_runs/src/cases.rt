@@ -64,9 +64,9 @@ fn neighbours(share: &[u8], bytes: usize) {
     if share.len() <= bytes {
         return;
     }
-    print::number(b" judged ", print::judged_first(share, bytes));
-    print::number(b" cut ", print::judged_first(share, bytes - 1));
-    print::number(b" more ", print::judged_first(share, bytes + 1));
+    lines::number(b" judged ", print::judged_first(share, bytes));
+    lines::number(b" cut ", print::judged_first(share, bytes - 1));
+    lines::number(b" more ", print::judged_first(share, bytes + 1));
 }
 
 // What writing answers with no letters, with a byte too many, and with the exact lengths, and then the share.
@@ -83,7 +83,7 @@ fn written(head: Head, packets: &[u8], letters: usize, share: &mut [u8], bytes: 
         b" write ",
         write_first(head, packets, letters, share, bytes),
     );
-    print::number(b" sum ", print::sum_first(share, bytes));
+    lines::number(b" sum ", print::sum_first(share, bytes));
 }
 
 // What reading answers with the exact room, and with a letter's room too many.
@@ -92,19 +92,19 @@ fn read_back(share: &[u8], bytes: usize, back: &mut [u8], letters: usize) {
         return;
     }
     print::judgment(b" read ", read_first(share, bytes, back, letters));
-    print::number(b" letters ", print::sum_first(back, letters));
+    lines::number(b" letters ", print::sum_first(back, letters));
     print::judgment(b" room ", read_first(share, bytes, back, letters + 1));
 }
 
 // The head's numbers, and T.
 fn named(head: Head, letters: usize) {
     let g = head.group;
-    print::number(b"share ", g.n);
-    print::number(b" ", g.k);
-    print::number(b" ", g.d);
-    print::number(b" ", head.node);
-    print::number(b" ", g.l);
-    print::number(b" letters ", letters);
+    lines::number(b"share ", g.n);
+    lines::number(b" ", g.k);
+    lines::number(b" ", g.d);
+    lines::number(b" ", head.node);
+    lines::number(b" ", g.l);
+    lines::number(b" letters ", letters);
 }
 
 // One line for one head, in buffers that any share fits in.
@@ -119,5 +119,5 @@ pub fn case(head: Head) {
     written(head, &packets, letters, &mut share, bytes);
     neighbours(&share, bytes);
     read_back(&share, bytes, &mut back, letters);
-    print::say(b"\n");
+    lines::say(b"\n");
 }

@@ -39,7 +39,7 @@ fn counted(counts: Counts, number: usize) -> Counts
 
 // The judgment of the first bytes, a digit.
 fn prefix(share: &[u8], count: usize) {
-    print::number(b"", print::judged_first(share, count));
+    lines::number(b"", print::judged_first(share, count));
 }
 
 // The judgments of the prefixes up to so many bytes, a digit each.
@@ -97,11 +97,11 @@ fn place(share: &mut [u8], at: usize) {
     }
     let own = share[at];
     let counts = all_values(share, at, own);
-    print::number(b"place ", at);
-    print::number(b" complete ", counts.complete);
-    print::number(b" unfinished ", counts.unfinished);
-    print::number(b" malformed ", counts.malformed);
-    print::say(b"\n");
+    lines::number(b"place ", at);
+    lines::number(b" complete ", counts.complete);
+    lines::number(b" unfinished ", counts.unfinished);
+    lines::number(b" malformed ", counts.malformed);
+    lines::say(b"\n");
 }
 
 // Each index from one to another.
@@ -122,14 +122,14 @@ fn write_desk(head: Head, share: &mut [u8]) {
 // P9: its bytes and what is read back; and P10 to P12.
 fn examples(share: &[u8]) {
     let mut back = [0u8; 2];
-    print::say(b" ");
+    lines::say(b" ");
     print::bytes(share, 81);
     print::judgment(b" read ", cases::read_first(share, 81, &mut back, 2));
-    print::say(b" ");
+    lines::say(b" ");
     print::bytes(&back, 2);
-    print::number(b"\nP10 ", print::judged_first(share, 80));
-    print::number(b"\nP11 ", print::judged_first(share, 82));
-    print::number(b"\nP12 ", print::judged_first(share, 0));
+    lines::number(b"\nP10 ", print::judged_first(share, 80));
+    lines::number(b"\nP11 ", print::judged_first(share, 82));
+    lines::number(b"\nP12 ", print::judged_first(share, 0));
 }
 
 // P9 to P12, and then the share of P9 changed.
@@ -137,9 +137,9 @@ pub fn desk(head: Head) {
     let mut share = [0u8; 82];
     write_desk(head, &mut share);
     examples(&share);
-    print::say(b"\nprefixes ");
+    lines::say(b"\nprefixes ");
     prefixes(&share, 81);
-    print::say(b"\n");
+    lines::say(b"\n");
     places(&mut share, 0, 11);
     places(&mut share, 76, 81);
 }

@@ -1,19 +1,8 @@
-// Words, numbers and bytes on standard output, and what stands for many bytes.
+// Bytes, answers and judgments on standard output, and what stands for many bytes.
 use group::Answer;
-use group::Refusal;
 use libc::STDOUT_FILENO;
 use share::Judgment;
 ghost use Prim.Native.Nat.{_<_};
-
-pub fn say(words: &[u8]) {
-    io::write_all(STDOUT_FILENO, words);
-}
-
-// A word and a number after it.
-pub fn number(word: &[u8], n: usize) {
-    say(word);
-    io::print_decimal(STDOUT_FILENO, n as u64);
-}
 
 // A byte of a slice as two hexadecimal digits.
 fn byte_at(bytes: &[u8], i: usize) {
@@ -58,28 +47,14 @@ pub fn sum_first(bytes: &[u8], count: usize) -> usize {
     sum(&bytes[..count])
 }
 
-// A refusal's number.
-pub fn refusal_number(refusal: Refusal) -> usize {
-    match refusal {
-        Refusal::Numbers => 1,
-        Refusal::Length => 2,
-        Refusal::Ids => 3,
-        Refusal::Order => 4,
-        Refusal::Input => 5,
-        Refusal::Output => 6,
-        Refusal::Unfinished => 7,
-        Refusal::Malformed => 8,
-    }
-}
-
 // An answer's number, and its value.
 pub fn answer(word: &[u8], answer: Answer) {
     match answer {
         Answer::Value(value) => {
-            number(word, 0);
-            number(b" value ", value);
+            lines::number(word, 0);
+            lines::number(b" value ", value);
         }
-        Answer::Refused(refusal) => number(word, refusal_number(refusal)),
+        Answer::Refused(refusal) => lines::number(word, group::refusal_number(refusal)),
     }
 }
 
@@ -87,16 +62,16 @@ pub fn answer(word: &[u8], answer: Answer) {
 pub fn judgment(word: &[u8], judgment: Judgment) {
     match judgment {
         Judgment::Complete(head) => {
-            number(word, 0);
+            lines::number(word, 0);
             let g = head.group;
-            number(b" of ", g.n);
-            number(b" ", g.k);
-            number(b" ", g.d);
-            number(b" node ", head.node);
-            number(b" length ", g.l);
-            number(b" batch ", head.batch as usize);
+            lines::number(b" of ", g.n);
+            lines::number(b" ", g.k);
+            lines::number(b" ", g.d);
+            lines::number(b" node ", head.node);
+            lines::number(b" length ", g.l);
+            lines::number(b" batch ", head.batch as usize);
         }
-        Judgment::Refused(refusal) => number(word, refusal_number(refusal)),
+        Judgment::Refused(refusal) => lines::number(word, group::refusal_number(refusal)),
     }
 }
 
@@ -104,7 +79,7 @@ pub fn judgment(word: &[u8], judgment: Judgment) {
 fn judged(bytes: &[u8]) -> usize {
     match share::judge(bytes) {
         Judgment::Complete(_) => 0,
-        Judgment::Refused(refusal) => refusal_number(refusal),
+        Judgment::Refused(refusal) => group::refusal_number(refusal),
     }
 }
 

@@ -12,15 +12,15 @@ enum-known-answer c = search needs
 enum-known-answer-2 : tie.Need-enum-known-answer-2
 enum-known-answer-2 c = search needs
 
-number-requires : tie.Need-number-requires
-number-requires c κs = search needs
+refusal-number-requires : tie.Need-refusal-number-requires
+refusal-number-requires c κs = search needs
 
 returns : tie.Need-returns
 returns c = search needs
 
 returns-2 : tie.Need-returns-2
-returns-2 c = (c .number .ensures ∙ ap numberOf (sym (c .before .before .answer2 .given .1)), kept _ _ _ (c .before .before .answer2 .given .1))
+returns-2 c = (c .refusal-number .ensures ∙ ap numberOf (sym (c .before .before .answer2 .given .1)), kept _ _ _ (c .before .before .answer2 .given .1))
 
 pub tell-spec : {M : Type 1} → statement M
 tell-spec =
-    tie.close (tie.spec enum-known-answer enum-known-answer-2 number-requires returns returns-2)
+    tie.close (tie.spec enum-known-answer enum-known-answer-2 refusal-number-requires returns returns-2)

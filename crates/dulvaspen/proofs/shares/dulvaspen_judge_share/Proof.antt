@@ -22,8 +22,8 @@ put-head-requires c κs = search needs
 enum-known-refusal : tie.Need-enum-known-refusal
 enum-known-refusal c = search needs
 
-number-requires : tie.Need-number-requires
-number-requires c κs = search needs
+refusal-number-requires : tie.Need-refusal-number-requires
+refusal-number-requires c κs = search needs
 
 same-length : tie.Need-same-length
 same-length c = search needs
@@ -33,7 +33,7 @@ returns-2 c = let w = found-share _ _ _ (c .before .before .before .before .befo
     subst (λ xs. JudgesShare (c .before .before .before .before .before .before .before .before .before .before .before .args .share .now) (c .before .before .before .before .before .before .before .before .before .before .before .args .head .now) 0 xs) (sym (c .before .before .put-head .ensures)) (JudgesShare.complete _ (w .0) (w .1) (c .before .before .before .before .if1 .left))
 
 returns-3 : tie.Need-returns-3
-returns-3 c = found-refusal _ _ _ _ _ (c .before .before .refusal .given .1) (c .before .before .before .before .judge .ensures) (c .number .ensures)
+returns-3 c = found-refusal _ _ _ _ _ (c .before .before .refusal .given .1) (c .before .before .before .before .judge .ensures) (c .refusal-number .ensures)
 
 pub dulvaspen-judge-share-spec : {M : Type 1} → statement M
 dulvaspen-judge-share-spec =
@@ -44,7 +44,7 @@ dulvaspen-judge-share-spec =
     returns
     put-head-requires
     enum-known-refusal
-    number-requires
+    refusal-number-requires
     same-length
     returns-2
     returns-3)

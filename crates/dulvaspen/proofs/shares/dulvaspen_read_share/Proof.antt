@@ -22,8 +22,8 @@ put-head-requires c κs = search needs
 enum-known-refusal : tie.Need-enum-known-refusal
 enum-known-refusal c = search needs
 
-number-requires : tie.Need-number-requires
-number-requires c κs = search needs
+refusal-number-requires : tie.Need-refusal-number-requires
+refusal-number-requires c κs = search needs
 
 same-length : tie.Need-same-length
 same-length c = search needs
@@ -38,7 +38,7 @@ same-length-3 : tie.Need-same-length-3
 same-length-3 c = search needs
 
 returns-3 : tie.Need-returns-3
-returns-3 c = read-refusal _ _ _ _ _ _ _ (c .before .before .refusal .given .1) (c .before .before .before .before .before .before .read .ensures) (c .number .ensures)
+returns-3 c = read-refusal _ _ _ _ _ _ _ (c .before .before .refusal .given .1) (c .before .before .before .before .before .before .read .ensures) (c .refusal-number .ensures)
 
 pub dulvaspen-read-share-spec : {M : Type 1} → statement M
 dulvaspen-read-share-spec =
@@ -50,7 +50,7 @@ dulvaspen-read-share-spec =
     enum-known-found
     put-head-requires
     enum-known-refusal
-    number-requires
+    refusal-number-requires
     same-length
     same-length-2
     returns-2
