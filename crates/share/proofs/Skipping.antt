@@ -90,9 +90,9 @@ full-stand xs r e p w lo hi =
 
 -- blocks that are within the bytes and within the full ones, and of that kind
 pub full-blocks :
-    (xs : List ℕ) (T r e most : ℕ) → 11 ≤ length xs → most ≡ min ((length xs - 11) / 65) (T / 64) → r ≤ e → (r < e → e ≤ most)
+    (xs : List ℕ) (T r e most : ℕ) → 11 + most * 65 ≤ length xs → most * 64 ≤ T → r ≤ e → (r < e → e ≤ most)
     → ((q : ℕ) → r ≤ q → q < e → getD xs (11 + q * 65) 0 ≡ 2) → FullBlocks xs T r e
-full-blocks xs T r e most long is on within kinds =
+full-blocks xs T r e most there full on within kinds =
     record {
       on = on;
       there = λ h. omega (arith, within h);

@@ -1,6 +1,6 @@
 -- `search::past_full_blocks` meets its contract: every block passed is within the bytes and the full blocks, and has its kind.
 use mathlib.Core.Path.{_≡_}
-use Prim.Native.Nat.{ℕ, _+_, _-_, _*_, _/_, _≤_, _<_, min}
+use Prim.Native.Nat.{ℕ, _+_, _-_, _*_, _≤_, _<_}
 use native.Mathlib.Omega.{arith}
 use lib.ListN.{length, getD}
 use mathlib.Core.Logic.{⊎-elim}
@@ -11,7 +11,7 @@ use Rattle.share.proofs.search.past_full_blocks.Statement.{statement}
 use Rattle.share.proofs.search.past_full_blocks.Tie as tie
 
 abbrev Inv-loop : tie.InvT-loop
-Inv-loop share letters r whole most e₀ e = (11 ≤ length share) × (most ≡ min ((length share - 11) / 65) (letters / 64)) × (r ≤ e) × (r < e → e ≤ most) × ((q : ℕ) → r ≤ q → q < e → getD share (11 + q * 65) 0 ≡ 2)
+Inv-loop share letters r whole most e₀ e = (11 + most * 65 ≤ length share) × (most * 64 ≤ letters) × (r ≤ e) × (r < e → e ≤ most) × ((q : ℕ) → r ≤ q → q < e → getD share (11 + q * 65) 0 ≡ 2)
 
 abbrev μ-loop : tie.MeasureT-loop
 μ-loop share letters r whole most e₀ e = most - e
@@ -26,7 +26,7 @@ lesser-requires : tie.Need-lesser-requires Inv-loop μ-loop
 lesser-requires c κs = search needs
 
 loop-holds : tie.Need-loop-holds Inv-loop μ-loop
-loop-holds c = (omega arith, c .lesser .ensures, omega arith, λ h. absurd (omega arith), λ q lo hi. absurd (omega arith))
+loop-holds c = (omega (arith, c .lesser .ensures), omega (arith, c .lesser .ensures), omega arith, λ h. absurd (omega arith), λ q lo hi. absurd (omega arith))
 
 mul-if2 : tie.Need-mul-if2 Inv-loop μ-loop
 mul-if2 c = omega arith

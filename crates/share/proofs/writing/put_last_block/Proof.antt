@@ -50,8 +50,9 @@ clear-requires c κs =
 
 same-length : tie.Need-same-length
 same-length c =
-    let s = c .before .before .before .before .before .before .before .before .before .before .before in
-    last-laid (s .args .packets .now) (s .args .share .now) _ _ _ _ refl refl (c .before .before .before .before .before .before .before .before .if1 .left) (s .pre .1) (c .before .before .before .before .before .before .copy .ensures) (c .before .before .clear .ensures) .same-length
+    c .before .before .clear .ensures .same-length
+    ∙ c .before .before .before .before .before .before .copy .ensures .same-length
+    ∙ length-set (c .before .before .before .before .before .before .before .before .before .before .before .args .share .now) _ _
 
 returns-2 : tie.Need-returns-2
 returns-2 c =
