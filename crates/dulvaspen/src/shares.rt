@@ -1,5 +1,4 @@
 // Shares: written, read and judged.
-use crate::answers;
 use group::Group;
 use share::Head;
 use share::Judgment;

@@ -36,33 +36,43 @@ by-refusal :
 by-refusal zero f before after after′ e e′ once = once refl (e ∙ sym e′)
 by-refusal (suc q) f before after after′ e e′ once = e ∙ sym e′
 
+-- two contents that recovery may leave are one, since no two files read the same
+pub one-recovered :
+    (g : Group) (ids before after after′ : List ℕ) → length after ≡ length before → length after′ ≡ length before
+    → ifFine (recoverRefusal g ids (length before)) (reading xors g after ids) after ≡ before
+    → ifFine (recoverRefusal g ids (length before)) (reading xors g after′ ids) after′ ≡ before → after ≡ after′
+unfolding recoverRefusal
+one-recovered g ids before after after′ size size′ e e′ =
+    by-refusal (recoverRefusal g ids (length before)) (λ file. reading xors g file ids) before after after′ e e′
+    (λ z same.
+    let w = first-none (readersRefusal g ids) (unless (eqb (length before) (fileLetters g)) 5) z in
+    let long = eqb-true (length before) (fileLetters g) (unless-none (eqb (length before) (fileLetters g)) 5 (λ q. omega arith) (w .1)) in
+    reading-once bytes g ids (readers-of g ids (w .0) .chosen) after after′ (size ∙ long) (size′ ∙ long) same)
+
 pub recovered-once :
     (g : Group) (ids before after after′ : List ℕ) (r r′ : Answer) → Recovered g ids before after r → Recovered g ids before after′ r′
     → (after ≡ after′) × (r ≡ r′)
-unfolding recoverRefusal
 recovered-once g ids before after after′ r r′ c c′ =
+    let same = one-recovered g ids before after after′ (c .same-length) (c′ .same-length) (c .holds) (c′ .holds) in
     (same, answer-once r r′ (recoverRefusal g ids (length before)) (recoveryCount g ids after) (recoveryCount g ids after′) (c .answer) (c′ .answer) (ap (recoveryCount g ids) same))
-  where
-    same : after ≡ after′
-    same =
-        by-refusal (recoverRefusal g ids (length before)) (λ file. reading xors g file ids) before after after′ (c .holds) (c′ .holds)
-        (λ z e.
-        let w = first-none (readersRefusal g ids) (unless (eqb (length before) (fileLetters g)) 5) z in
-        let long = eqb-true (length before) (fileLetters g) (unless-none (eqb (length before) (fileLetters g)) 5 (λ q. omega arith) (w .1)) in
-        reading-once bytes g ids (readers-of g ids (w .0) .chosen) after after′ (c .same-length ∙ long) (c′ .same-length ∙ long) e)
+
+-- and two that repair may leave, since its equations have one solution
+pub one-repaired :
+    (g : Group) (lost : ℕ) (helpers before after after′ : List ℕ) → length after ≡ length before → length after′ ≡ length before
+    → ifFine (repairRefusal g lost helpers (length before)) (equations xors g lost helpers after) after ≡ before
+    → ifFine (repairRefusal g lost helpers (length before)) (equations xors g lost helpers after′) after′ ≡ before → after ≡ after′
+unfolding repairRefusal
+one-repaired g lost helpers before after after′ size size′ e e′ =
+    by-refusal (repairRefusal g lost helpers (length before)) (equations xors g lost helpers) before after after′ e e′
+    (λ z same.
+    let w = first-none (helpersRefusal g lost helpers) (unless (eqb (length before) (nodeLetters g lost)) 5) z in
+    let long = eqb-true (length before) (nodeLetters g lost) (unless-none (eqb (length before) (nodeLetters g lost)) 5 (λ q. omega arith) (w .1)) in
+    one-repair bytes g lost helpers (helpers-of g lost helpers (w .0) .chosen) after after′ (size ∙ long ∙ same-letters g lost)
+    (size′ ∙ long ∙ same-letters g lost) same)
 
 pub repaired-once :
     (g : Group) (lost : ℕ) (helpers before after after′ : List ℕ) (r r′ : Answer) → Repaired g lost helpers before after r
     → Repaired g lost helpers before after′ r′ → (after ≡ after′) × (r ≡ r′)
-unfolding repairRefusal
 repaired-once g lost helpers before after after′ r r′ c c′ =
+    let same = one-repaired g lost helpers before after after′ (c .same-length) (c′ .same-length) (c .holds) (c′ .holds) in
     (same, answer-once r r′ (repairRefusal g lost helpers (length before)) (repairCount g lost helpers after) (repairCount g lost helpers after′) (c .answer) (c′ .answer) (ap (repairCount g lost helpers) same))
-  where
-    same : after ≡ after′
-    same =
-        by-refusal (repairRefusal g lost helpers (length before)) (equations xors g lost helpers) before after after′ (c .holds) (c′ .holds)
-        (λ z e.
-        let w = first-none (helpersRefusal g lost helpers) (unless (eqb (length before) (nodeLetters g lost)) 5) z in
-        let long = eqb-true (length before) (nodeLetters g lost) (unless-none (eqb (length before) (nodeLetters g lost)) 5 (λ q. omega arith) (w .1)) in
-        one-repair bytes g lost helpers (helpers-of g lost helpers (w .0) .chosen) after after′ (c .same-length ∙ long ∙ same-letters g lost)
-        (c′ .same-length ∙ long ∙ same-letters g lost) e)

@@ -1,0 +1,84 @@
+-- What each exported call's contract says allows one number returned and one content of each lent number and buffer.
+use mathlib.Core.Path.{_≡_, refl, sym, ap, _∙_}
+use mathlib.Core.List.{List}
+use Prim.Native.Nat.{ℕ}
+use lib.ListN.{length}
+use Rattle.group.specs.declared.Group.{Group}
+use Rattle.group.specs.Answers.{ifFine}
+use Rattle.store.specs.Counts.{recoveryCount, repairCount}
+use Rattle.store.specs.Calls.{recoverRefusal, repairRefusal}
+use Rattle.store.proofs.Outcomes.{one-recovered, one-repaired}
+use Rattle.share.proofs.Judgments.{not-share-and-beginning, one-head, one-letters}
+use Rattle.dulvaspen.specs.Exports.{Tells, Fills, Recovers, Repairs}
+use Rattle.dulvaspen.specs.Shares.{six, JudgesShare, ReadsShare}
+
+-- lengths, places, counts
+pub tells-once :
+    (q v v′ before after after′ r r′ : ℕ) → v ≡ v′ → Tells q v before after r → Tells q v′ before after′ r′ → (r ≡ r′) × (after ≡ after′)
+tells-once q v v′ before after after′ r r′ e c c′ =
+    (c .returned ∙ sym (c′ .returned), c .told ∙ ap (λ m. ifFine q m before) e ∙ sym (c′ .told))
+
+-- encode, help, write
+pub fills-once :
+    (q : ℕ) (right before after after′ : List ℕ) (r r′ : ℕ) → Fills q right before after r → Fills q right before after′ r′
+    → (r ≡ r′) × (after ≡ after′)
+fills-once q right before after after′ r r′ c c′ = (c .returned ∙ sym (c′ .returned), c .holds ∙ sym (c′ .holds))
+
+pub recovers-once :
+    (g : Group) (ids before after after′ : List ℕ) (count told told′ r r′ : ℕ) → Recovers g ids before after count told r
+    → Recovers g ids before after′ count told′ r′ → (after ≡ after′) × (r ≡ r′) × (told ≡ told′)
+recovers-once g ids before after after′ count told told′ r r′ c c′ =
+    let same = one-recovered g ids before after after′ (c .same-length) (c′ .same-length) (c .holds) (c′ .holds) in
+    let told-once = tells-once (recoverRefusal g ids (length before)) _ _ count told told′ r r′ (ap (recoveryCount g ids) same) (c .tells) (c′ .tells) in
+    (same, told-once .0, told-once .1)
+
+pub repairs-once :
+    (g : Group) (lost : ℕ) (helpers before after after′ : List ℕ) (count told told′ r r′ : ℕ) → Repairs g lost helpers before after count told r
+    → Repairs g lost helpers before after′ count told′ r′ → (after ≡ after′) × (r ≡ r′) × (told ≡ told′)
+repairs-once g lost helpers before after after′ count told told′ r r′ c c′ =
+    let same = one-repaired g lost helpers before after after′ (c .same-length) (c′ .same-length) (c .holds) (c′ .holds) in
+    let told-once = tells-once (repairRefusal g lost helpers (length before)) _ _ count told told′ r r′ (ap (repairCount g lost helpers) same) (c .tells) (c′ .tells) in
+    (same, told-once .0, told-once .1)
+
+-- any bytes are a share, a beginning of one or neither, and a share's bytes tell its head and its letters
+module _ {bytes head : List ℕ} where
+  pub judges-share-once :
+      {r r′ : ℕ} {after after′ : List ℕ} → JudgesShare bytes head r after → JudgesShare bytes head r′ after′ → (r ≡ r′) × (after ≡ after′)
+  judges-share-once (JudgesShare.complete h l s e) (JudgesShare.complete h′ l′ s′ e′) = (refl, ap six (one-head h h′ l l′ bytes s s′))
+  judges-share-once (JudgesShare.complete h l s e) (JudgesShare.unfinished b) = absurd (not-share-and-beginning bytes (h, l, s) b)
+  judges-share-once (JudgesShare.complete h l s e) (JudgesShare.malformed m) = absurd (m .0 (h, l, s))
+  judges-share-once (JudgesShare.complete h l s e) (JudgesShare.misfit h′ l′ s′ n) = absurd (n e)
+  judges-share-once (JudgesShare.unfinished b) (JudgesShare.complete h l s e) = absurd (not-share-and-beginning bytes (h, l, s) b)
+  judges-share-once (JudgesShare.unfinished b) (JudgesShare.unfinished b′) = (refl, refl)
+  judges-share-once (JudgesShare.unfinished b) (JudgesShare.malformed m) = absurd (m .1 b)
+  judges-share-once (JudgesShare.unfinished b) (JudgesShare.misfit h l s n) = absurd (not-share-and-beginning bytes (h, l, s) b)
+  judges-share-once (JudgesShare.malformed m) (JudgesShare.complete h l s e) = absurd (m .0 (h, l, s))
+  judges-share-once (JudgesShare.malformed m) (JudgesShare.unfinished b) = absurd (m .1 b)
+  judges-share-once (JudgesShare.malformed m) (JudgesShare.malformed m′) = (refl, refl)
+  judges-share-once (JudgesShare.malformed m) (JudgesShare.misfit h l s n) = absurd (m .0 (h, l, s))
+  judges-share-once (JudgesShare.misfit h l s n) (JudgesShare.complete h′ l′ s′ e) = absurd (n e)
+  judges-share-once (JudgesShare.misfit h l s n) (JudgesShare.unfinished b) = absurd (not-share-and-beginning bytes (h, l, s) b)
+  judges-share-once (JudgesShare.misfit h l s n) (JudgesShare.malformed m) = absurd (m .0 (h, l, s))
+  judges-share-once (JudgesShare.misfit h l s n) (JudgesShare.misfit h′ l′ s′ n′) = (refl, refl)
+
+module _ {bytes packets head : List ℕ} where
+  pub reads-share-once :
+      {r r′ : ℕ} {held held′ after after′ : List ℕ} → ReadsShare bytes packets head r held after → ReadsShare bytes packets head r′ held′ after′
+      → (r ≡ r′) × (held ≡ held′) × (after ≡ after′)
+  reads-share-once (ReadsShare.complete h l s e f) (ReadsShare.complete h′ l′ s′ e′ f′) =
+      (refl, one-letters h h′ l l′ bytes s s′, ap six (one-head h h′ l l′ bytes s s′))
+  reads-share-once (ReadsShare.complete h l s e f) (ReadsShare.unfinished b) = absurd (not-share-and-beginning bytes (h, l, s) b)
+  reads-share-once (ReadsShare.complete h l s e f) (ReadsShare.malformed m) = absurd (m .0 (h, l, s))
+  reads-share-once (ReadsShare.complete h l s e f) (ReadsShare.misfit h′ l′ s′ n) = absurd (n (e ∙ ap length (one-letters h h′ l l′ bytes s s′)) f)
+  reads-share-once (ReadsShare.unfinished b) (ReadsShare.complete h l s e f) = absurd (not-share-and-beginning bytes (h, l, s) b)
+  reads-share-once (ReadsShare.unfinished b) (ReadsShare.unfinished b′) = (refl, refl, refl)
+  reads-share-once (ReadsShare.unfinished b) (ReadsShare.malformed m) = absurd (m .1 b)
+  reads-share-once (ReadsShare.unfinished b) (ReadsShare.misfit h l s n) = absurd (not-share-and-beginning bytes (h, l, s) b)
+  reads-share-once (ReadsShare.malformed m) (ReadsShare.complete h l s e f) = absurd (m .0 (h, l, s))
+  reads-share-once (ReadsShare.malformed m) (ReadsShare.unfinished b) = absurd (m .1 b)
+  reads-share-once (ReadsShare.malformed m) (ReadsShare.malformed m′) = (refl, refl, refl)
+  reads-share-once (ReadsShare.malformed m) (ReadsShare.misfit h l s n) = absurd (m .0 (h, l, s))
+  reads-share-once (ReadsShare.misfit h l s n) (ReadsShare.complete h′ l′ s′ e f) = absurd (n (e ∙ ap length (one-letters h′ h l′ l bytes s′ s)) f)
+  reads-share-once (ReadsShare.misfit h l s n) (ReadsShare.unfinished b) = absurd (not-share-and-beginning bytes (h, l, s) b)
+  reads-share-once (ReadsShare.misfit h l s n) (ReadsShare.malformed m) = absurd (m .0 (h, l, s))
+  reads-share-once (ReadsShare.misfit h l s n) (ReadsShare.misfit h′ l′ s′ n′) = (refl, refl, refl)
