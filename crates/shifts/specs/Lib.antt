@@ -1,2 +1,3 @@
 -- Shifts: how far a node moves a column.
 pub mod Rule
+pub mod Table

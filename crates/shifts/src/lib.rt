@@ -4,11 +4,29 @@ mod table;
 ghost use mathlib.Core.Path.{_≡_};
 ghost use Prim.Native.Nat.{_≤_};
 ghost use Rattle.shifts.specs.Rule.{t};
+ghost use Rattle.shifts.specs.Table.{Table};
 
-// The shift of `node` at `column`, both from 1 to 16.
+// The table of every shift. A constant is laid out anew wherever it is read, so who needs many shifts takes the table once.
+pub fn all() -> [u8; 256]
+    ensures { λ r. ⌜ Table r ⌝ }
+{
+    table::SHIFTS
+}
+
+// The shift of `node` at `column`, both from 1 to 16, read in the table.
+pub fn shift_in(table: &[u8], node: usize, column: usize) -> usize
+    requires table { ⌜ Table (now table) ⌝ }
+    requires numbers { ⌜ (1 ≤ node) × (node ≤ 16) × (1 ≤ column) × (column ≤ 16) ⌝ }
+    ensures { λ r. ⌜ r ≡ t node column ⌝ }
+{
+    table[(node - 1) * 16 + (column - 1)] as usize
+}
+
+// The same for one shift alone.
 pub fn shift(node: usize, column: usize) -> usize
     requires { ⌜ (1 ≤ node) × (node ≤ 16) × (1 ≤ column) × (column ≤ 16) ⌝ }
     ensures { λ r. ⌜ r ≡ t node column ⌝ }
 {
-    table::SHIFTS[(node - 1) * 16 + (column - 1)] as usize
+    let table = all();
+    shift_in(&table, node, column)
 }

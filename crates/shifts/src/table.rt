@@ -1,4 +1,4 @@
-// The constant table of shifts. Its rule is proved once for the whole table, in proofs/shift.
+// The constant table of shifts. Its rule is proved once for the whole table, in proofs/all.
 
 // One row of sixteen columns for each of the sixteen nodes.
 pub const SHIFTS: [u8; 256] = [

@@ -1,5 +1,5 @@
 // The solver of a system of shifted sums: s pieces of n letters are turned, where they lie, into the s sequences that they are sums of.
-mod place;
+pub mod place;
 mod rounds;
 mod sums;
 

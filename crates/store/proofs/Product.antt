@@ -30,6 +30,11 @@ pub shift-rises : (i u d : ℕ) → 1 ≤ i → 1 ≤ u → u ≤ d → t i u �
 shift-rises i u d li lu h =
     ⊎-elim (λ e. omega (arith, ap (t i) e)) (λ l. refined .rising i u d li lu l) (eq-or-lt-of-le h)
 
+-- the packets of a node are of one length
+pub packet-same : (g : Group) (i j j′ : ℕ) → packetLength g i j ≡ packetLength g i j′
+unfolding packetLength
+packet-same g i j j′ = refl
+
 -- one packet ends where the next starts
 pub packet-next : (g : Group) (i j : ℕ) → 1 ≤ j → packetStart g i (j + 1) ≡ packetStart g i j + packetLength g i j
 unfolding packetStart packetLength

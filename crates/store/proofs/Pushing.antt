@@ -6,7 +6,7 @@ use Prim.Native.Nat.{ℕ, zero, suc, _+_, _-_, _*_, _≤_, _<_, min}
 use native.Mathlib.Nat.{eq-or-lt-of-le}
 use native.Mathlib.Omega.{arith}
 use lib.Bits.{bitXor, xor-zero-r}
-use lib.ListN.{length, getD, take, drop, length-take}
+use lib.ListN.{length, take, drop, length-take}
 use Rattle.letters.specs.Algebra.{xors, counts, sum}
 use Rattle.letters.specs.Runs.{added}
 use Rattle.letters.specs.Worth.{worthOf, worth}
@@ -17,6 +17,7 @@ use Rattle.letters.proofs.Worth.{worth-at-most}
 use Rattle.shifts.specs.Rule.{t}
 use Rattle.solving.specs.System.{sequence}
 use Rattle.solving.specs.Count.{within}
+use Rattle.solving.specs.Solver.{shiftIn}
 use Rattle.solving.proofs.System.{sequences}
 use Rattle.group.specs.declared.Group.{Group}
 use Rattle.group.specs.Ranges.{InRange}
@@ -24,6 +25,8 @@ use Rattle.group.specs.Lengths.{fileLetters}
 use Rattle.store.specs.Lists.{ranked}
 use Rattle.store.specs.Matrix.{before, entryNumber}
 use Rattle.store.specs.Recovery.{standing, seenAt, Collected, runWorth, PushedRun, PushedInto, Pushed}
+use Rattle.store.specs.Steps.{RowsOf}
+use Rattle.store.proofs.Charted.{rows-shift}
 use Rattle.store.proofs.Columns.{before-apart, entry-one, entry-fits, from-one}
 use Rattle.store.proofs.Product.{shift-rises}
 use Rattle.store.proofs.PushRun.{sequences-apart, pushed-length, pushed-here, pushed-there, pushed-worth}
@@ -112,20 +115,14 @@ module _ (g : Group) (ids buffer : List ℕ) (collected : Collected g ids buffer
       gone : (p : ℕ) → p ≤ g .l → seenAt ids w u p ≡ 0
       gone p hi = omega (arith, rises)
 
-  -- the node of rank w is one of the table's
-  pub node-range : (1 ≤ getD ids (w - 1) 0) × (getD ids (w - 1) 0 ≤ 16)
-  unfolding ranked
-  node-range = (
-    collected .chosen .falling .from-one w lw (omega arith),
-    omega (arith, collected .chosen .known w lw (omega arith), collected .chosen .group .n-high),
-  )
-
-  -- as the code has it: two shifts and two starts
-  module _ (su sw start from : ℕ) (esu : su ≡ t (getD ids (w - 1) 0) u) (esw : sw ≡ t (getD ids (w - 1) 0) w)
+  -- as the code has it: two shifts of the rows and two starts
+  module _ (rows : List ℕ) (r : RowsOf ids rows) (su sw start from : ℕ) (esu : su ≡ shiftIn rows w u) (esw : sw ≡ shiftIn rows w w)
       (est : start ≡ (entryNumber (g .k) w c - 1) * g .l) (efr : from ≡ (entryNumber (g .k) c u - 1) * g .l) where
+    same-shift : (a : ℕ) → 1 ≤ a → a ≤ u → shiftIn rows w a ≡ t (ranked ids w) a
+    same-shift a la ha = rows-shift ids rows r w a lw (omega (arith, collected .chosen .many)) la (omega (arith, collected .chosen .group .d-high))
+
     pub shifts-rise : sw ≤ su
-    unfolding ranked
-    shifts-rise = omega (arith, rises)
+    shifts-rise = omega (arith, rises, same-shift u (omega arith) (omega arith), same-shift w lw (omega arith))
 
     pub runs-fit : (start + g .l ≤ from) × (from + g .l ≤ length buffer)
     runs-fit = (
@@ -134,8 +131,7 @@ module _ (g : Group) (ids buffer : List ℕ) (collected : Collected g ids buffer
     )
 
     same-move : su - sw ≡ moved
-    unfolding ranked
-    same-move = ap₂ _-_ esu esw
+    same-move = ap₂ _-_ (esu ∙ same-shift u (omega arith) (omega arith)) (esw ∙ same-shift w lw (omega arith))
 
     pub push-done :
         (after : List ℕ) (count : ℕ) → su - sw < g .l → after ≡ added xors buffer (start + (su - sw)) (take (g .l - (su - sw)) (drop from buffer))

@@ -6,7 +6,7 @@ use Prim.Native.Nat.{ℕ, zero, suc, _+_, _-_, _≤_, _<_, min}
 use native.Mathlib.Omega.{arith}
 use lib.Bits.{bitXor, xor-zero-r}
 use lib.ListN.{length, getD, take, drop, length-drop}
-use lib.Seq.{getD-take, getD-drop, length-take-le}
+use lib.Seq.{getD-take, getD-drop, length-take-le, take-all}
 use Rattle.letters.specs.Algebra.{xors}
 use Rattle.letters.specs.Places.{letter}
 use Rattle.letters.specs.Runs.{added}
@@ -91,6 +91,12 @@ seen-at run into after ahead count h c is =
     let size : count - 0 ≡ count = omega arith in
     subst (λ xs. Seen run 0 ahead into xs) (sym (is ∙ ap (λ n. added xors into ahead (take n (drop 0 run))) size))
     (seen-part run 0 ahead into ahead 0 count (omega arith) (inr refl) (omega arith) (λ q l a p. omega arith))
+
+-- a run added whole
+pub seen-whole : (run into after : List ℕ) (ahead : ℕ) → after ≡ added xors into ahead run → Seen run 0 ahead into after
+seen-whole run into after ahead is =
+    subst (λ xs. Seen run 0 ahead into xs) (sym (is ∙ ap (added xors into ahead) (sym (take-all (length run) run (omega arith)))))
+    (seen-part run 0 ahead into ahead 0 (length run) (omega arith) (inr refl) (omega arith) (λ q l a p. omega arith))
 
 -- only the difference of the two moves counts
 pub seen-same :

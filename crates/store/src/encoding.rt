@@ -9,6 +9,7 @@ ghost use Prim.Native.Nat.{_≤_};
 ghost use lib.ListN.{length};
 ghost use Rattle.letters.specs.Algebra.{xors};
 ghost use Rattle.shifts.specs.Rule.{t};
+ghost use Rattle.shifts.specs.Table.{Table};
 ghost use Rattle.group.specs.Ranges.{NodeOf};
 ghost use Rattle.group.specs.Lengths.{fileLetters, nodeLetters, packetLength};
 ghost use Rattle.store.specs.Matrix.{matrix, packet, packets as product};
@@ -43,23 +44,34 @@ fn encode_exact(g: Group, node: usize, file: &[u8], packets: &mut [u8]) -> Answe
     }
 }
 
-// The d packets, one after another.
+// The d packets, one after another, all of one length.
 fn encode_packets(g: Group, node: usize, file: &[u8], packets: &mut [u8])
     requires node { ⌜ NodeOf g node ⌝ }
     requires lengths { ⌜ (length (now file) ≡ fileLetters g) × (length (now packets) ≡ nodeLetters g node) ⌝ }
     ensures { λ r. ⌜ now (packets .exit) ≡ product xors g (now (file .entry)) node ⌝ }
 {
+    let table = shifts::all();
+    let size = group::lengths::packet(g, node, 1);
+    let mut end = 0;
     let mut j = 0;
     while j < g.d {
         j += 1;
-        let start = group::lengths::packet_start(g, node, j);
-        let end = start + group::lengths::packet(g, node, j);
-        encode_packet(g, node, j, file, &mut packets[start..end]);
+        let start = end;
+        end = start + size;
+        encode_packet(g, node, j, &table, file, &mut packets[start..end]);
     }
 }
 
 // Packet `column` of the node: the sum of the column's d entries, each moved right by the node's shift of its row.
-fn encode_packet(g: Group, node: usize, column: usize, file: &[u8], letters: &mut [u8])
+fn encode_packet(
+    g: Group,
+    node: usize,
+    column: usize,
+    table: &[u8],
+    file: &[u8],
+    letters: &mut [u8],
+)
+    requires table { ⌜ Table (now table) ⌝ }
     requires node { ⌜ (NodeOf g node) × (1 ≤ column) × (column ≤ g .d) ⌝ }
     requires lengths { ⌜ (length (now file) ≡ fileLetters g) × (length (now letters) ≡ packetLength g node column) ⌝ }
     ensures { λ r. ⌜ now (letters .exit) ≡ packet xors g (now (file .entry)) node column ⌝ }
@@ -68,14 +80,23 @@ fn encode_packet(g: Group, node: usize, column: usize, file: &[u8], letters: &mu
     let mut row = 0;
     while row < g.d {
         row += 1;
-        add_entry(g, node, column, row, file, letters);
+        add_entry(g, node, column, row, table, file, letters);
     }
 }
 
 // Adds entry (row, column) of the matrix, moved right by t(node, row), to a packet. In the zero corner there is nothing to add.
-fn add_entry(g: Group, node: usize, column: usize, row: usize, file: &[u8], letters: &mut [u8])
+fn add_entry(
+    g: Group,
+    node: usize,
+    column: usize,
+    row: usize,
+    table: &[u8],
+    file: &[u8],
+    letters: &mut [u8],
+)
+    requires table { ⌜ Table (now table) ⌝ }
     requires node { ⌜ (NodeOf g node) × (1 ≤ column) × (column ≤ g .d) × (1 ≤ row) × (row ≤ g .d) ⌝ }
-    requires lengths { ⌜ length (now file) ≡ fileLetters g ⌝ }
+    requires lengths { ⌜ (length (now file) ≡ fileLetters g) × (length (now letters) ≡ packetLength g node column) ⌝ }
     ensures { λ r. ⌜ Adds (matrix xors g (now (file .entry)) row column) 0 (t node row) (now (letters .entry)) (now (letters .exit)) ⌝ }
 {
     if g.k < column {
@@ -85,5 +106,6 @@ fn add_entry(g: Group, node: usize, column: usize, row: usize, file: &[u8], lett
     }
     let start = entries::entry_start(g, row, column);
     let end = start + g.l;
-    windows::add_seen(letters, &file[start..end], 0, shifts::shift(node, row));
+    let shift = shifts::shift_in(table, node, row);
+    letters::add_run(letters, shift, &file[start..end]);
 }

@@ -5,16 +5,13 @@ use group::Check;
 use group::Group;
 use group::Refusal;
 ghost use mathlib.Core.Path.{_≡_};
-ghost use Prim.Native.Nat.{_≤_};
 ghost use lib.ListN.{length};
 ghost use Rattle.letters.specs.Algebra.{xors};
-ghost use Rattle.shifts.specs.Rule.{t};
 ghost use Rattle.group.specs.Answers.{checkNumber};
 ghost use Rattle.group.specs.Ranges.{NodeOf};
 ghost use Rattle.group.specs.Lengths.{nodeLetters, repairLetters};
-ghost use Rattle.store.specs.Repair.{heldLetter, helping};
+ghost use Rattle.store.specs.Repair.{helping};
 ghost use Rattle.store.specs.Calls.{helperRefusal, Helped, Helper};
-ghost use Rattle.store.specs.Steps.{Adds};
 
 // Fills `piece` with what the helper of this rank sends for the lost node: letters t(h,u)+1 .. t(h,u)+L' of r, the sum of its packets
 // each moved right by the lost node's shift. `packets` has exactly the helper's T letters (else 5) and `piece` exactly L' (else 6).
@@ -92,41 +89,23 @@ fn help_exact(
     }
 }
 
-// The sum over the helper's packets, as the window of its rank sees it.
+// The sum over the helper's packets, each moved right by t(lost, j), as the window of its rank sees it.
 fn sum_packets(g: Group, lost: usize, helper: usize, rank: usize, packets: &[u8], piece: &mut [u8])
     requires helper { ⌜ Helper g lost helper rank ⌝ }
     requires lengths { ⌜ (length (now packets) ≡ nodeLetters g helper) × (length (now piece) ≡ repairLetters g lost) ⌝ }
     ensures { λ r. ⌜ now (piece .exit) ≡ helping xors g lost helper rank (now (packets .entry)) ⌝ }
 {
+    let table = shifts::all();
+    let skip = shifts::shift_in(&table, helper, rank);
+    let size = group::lengths::packet(g, helper, 1);
     windows::clear(piece);
+    let mut end = 0;
     let mut j = 0;
     while j < g.d {
         j += 1;
-        add_packet(g, lost, helper, rank, j, packets, piece);
+        let start = end;
+        end = start + size;
+        let lead = shifts::shift_in(&table, lost, j);
+        windows::add_seen(piece, &packets[start..end], skip, lead);
     }
-}
-
-// Adds packet `column` of the helper, moved right by t(lost, column), as the window sees it.
-fn add_packet(
-    g: Group,
-    lost: usize,
-    helper: usize,
-    rank: usize,
-    column: usize,
-    packets: &[u8],
-    piece: &mut [u8],
-)
-    requires helper { ⌜ (Helper g lost helper rank) × (1 ≤ column) × (column ≤ g .d) ⌝ }
-    requires lengths { ⌜ length (now packets) ≡ nodeLetters g helper ⌝ }
-    ensures { λ r. ⌜ Adds (heldLetter xors g helper (now (packets .entry)) column) (t helper rank) (t lost column) (now (piece .entry)) (now (piece .exit)) ⌝ }
-{
-    let start = group::lengths::packet_start(g, helper, column);
-    let end = start + group::lengths::packet(g, helper, column);
-    let skip = shifts::shift(helper, rank);
-    windows::add_seen(
-        piece,
-        &packets[start..end],
-        skip,
-        shifts::shift(lost, column),
-    );
 }

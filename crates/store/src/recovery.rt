@@ -74,12 +74,12 @@ fn recover_column(g: Group, ids: &[usize], rows: &[usize], u: usize, buffer: &mu
     let start = entries::sequences_before(g.k, u) * g.l;
     let end = start + s * g.l;
     let solved = solving::solve(&mut buffer[start..end], s, g.l, rows);
-    solved + push_column(g, ids, u, buffer)
+    solved + push_column(g, ids, rows, u, buffer)
 }
 
 // Takes column `u`, which is solved, out of the columns before it: entry (w,c) loses m(c,u) moved by t(iw,u) - t(iw,w).
-fn push_column(g: Group, ids: &[usize], u: usize, buffer: &mut [u8]) -> usize
-    requires { ⌜ (Collected g (now ids) (now buffer)) × (1 ≤ u) × (u ≤ g .d) ⌝ }
+fn push_column(g: Group, ids: &[usize], rows: &[usize], u: usize, buffer: &mut [u8]) -> usize
+    requires { ⌜ (Collected g (now ids) (now buffer)) × (RowsOf (now ids) (now rows)) × (1 ≤ u) × (u ≤ g .d) ⌝ }
     ensures { λ r. ⌜ Pushed g (now (ids .entry)) u (min (u - 1) (g .k)) (now (buffer .entry)) (now (buffer .exit)) r ⌝ }
     ensures bound { λ r. ⌜ r ≤ 1048576 ⌝ }
 {
@@ -88,14 +88,21 @@ fn push_column(g: Group, ids: &[usize], u: usize, buffer: &mut [u8]) -> usize
     let mut c = 0;
     while c < columns {
         c += 1;
-        count += push_into(g, ids, u, c, buffer);
+        count += push_into(g, ids, rows, u, c, buffer);
     }
     count
 }
 
 // The same for one earlier column.
-fn push_into(g: Group, ids: &[usize], u: usize, c: usize, buffer: &mut [u8]) -> usize
-    requires { ⌜ (Collected g (now ids) (now buffer)) × (1 ≤ c) × (c + 1 ≤ u) × (c ≤ g .k) × (u ≤ g .d) ⌝ }
+fn push_into(
+    g: Group,
+    ids: &[usize],
+    rows: &[usize],
+    u: usize,
+    c: usize,
+    buffer: &mut [u8],
+) -> usize
+    requires { ⌜ (Collected g (now ids) (now buffer)) × (RowsOf (now ids) (now rows)) × (1 ≤ c) × (c + 1 ≤ u) × (c ≤ g .k) × (u ≤ g .d) ⌝ }
     ensures { λ r. ⌜ PushedInto g (now (ids .entry)) u c c (now (buffer .entry)) (now (buffer .exit)) r ⌝ }
     ensures bound { λ r. ⌜ r ≤ 65536 ⌝ }
 {
@@ -103,19 +110,26 @@ fn push_into(g: Group, ids: &[usize], u: usize, c: usize, buffer: &mut [u8]) -> 
     let mut w = 0;
     while w < c {
         w += 1;
-        count += push_run(g, ids, u, c, w, buffer);
+        count += push_run(g, ids, rows, u, c, w, buffer);
     }
     count
 }
 
-// The same for one entry of it.
-fn push_run(g: Group, ids: &[usize], u: usize, c: usize, w: usize, buffer: &mut [u8]) -> usize
-    requires { ⌜ (Collected g (now ids) (now buffer)) × (1 ≤ w) × (w ≤ c) × (c + 1 ≤ u) × (c ≤ g .k) × (u ≤ g .d) ⌝ }
+// The same for one entry of it. The shifts are read in the rows, so that the ids stand in the contract alone.
+fn push_run(
+    g: Group,
+    ids: &[usize],
+    rows: &[usize],
+    u: usize,
+    c: usize,
+    w: usize,
+    buffer: &mut [u8],
+) -> usize
+    requires { ⌜ (Collected g (now ids) (now buffer)) × (RowsOf (now ids) (now rows)) × (1 ≤ w) × (w ≤ c) × (c + 1 ≤ u) × (c ≤ g .k) × (u ≤ g .d) ⌝ }
     ensures { λ r. ⌜ PushedRun g (now (ids .entry)) u c w (now (buffer .entry)) (now (buffer .exit)) r ⌝ }
     ensures bound { λ r. ⌜ r ≤ 4096 ⌝ }
 {
-    let node = ids[w - 1];
-    let moved = shifts::shift(node, u) - shifts::shift(node, w);
+    let moved = solving::place::shift_in(rows, w, u) - solving::place::shift_in(rows, w, w);
     if g.l <= moved {
         return 0;
     }

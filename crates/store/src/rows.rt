@@ -8,11 +8,12 @@ pub fn shift_rows(ids: &[usize]) -> [usize; 256]
     requires { ⌜ Known (now ids) ⌝ }
     ensures { λ r. ⌜ RowsOf (now (ids .entry)) r ⌝ }
 {
+    let table = shifts::all();
     let mut rows = [0usize; 256];
     let count = ids.len() * 16;
     let mut i = 0;
     while i < count {
-        rows[i] = shifts::shift(ids[i / 16], i % 16 + 1);
+        rows[i] = shifts::shift_in(&table, ids[i / 16], i % 16 + 1);
         i += 1;
     }
     rows

@@ -15,10 +15,10 @@ use Rattle.store.proofs.encoding.encode_packet.Statement.{statement}
 use Rattle.store.proofs.encoding.encode_packet.Tie as tie
 
 abbrev Inv-loop : tie.InvT-loop
-Inv-loop g node column file letters₀ row₀ letters row = (row ≤ g .d) × (length letters ≡ length letters₀) × Summed row 0 (t node) (λ u. matrix xors g file u column) letters
+Inv-loop g node column table file letters₀ row₀ letters row = (row ≤ g .d) × (length letters ≡ length letters₀) × Summed row 0 (t node) (λ u. matrix xors g file u column) letters
 
 abbrev μ-loop : tie.MeasureT-loop
-μ-loop g node column file letters₀ row₀ letters row = g .d - row
+μ-loop g node column table file letters₀ row₀ letters row = g .d - row
 
 clear-requires : tie.Need-clear-requires Inv-loop μ-loop
 clear-requires c κs = search needs
@@ -30,7 +30,8 @@ add-row : tie.Need-add-row Inv-loop μ-loop
 add-row c = search needs
 
 add-entry-requires : tie.Need-add-entry-requires Inv-loop μ-loop
-add-entry-requires c κs = search needs
+add-entry-requires c κs = let s = c .before .before .before .before .before .before .before .before .before .before .before in
+    (s .pre .0, ((s .pre .1 .0 .0, omega arith, omega arith, omega arith, omega arith), (s .pre .1 .1 .0, c .before .before .before .loop .inv .1 ∙ c .before .before .before .before .before .before .clear .ensures .same-length ∙ s .pre .1 .1 .1)))
 
 loop-less : tie.Need-loop-less Inv-loop μ-loop
 loop-less c = search needs
@@ -50,7 +51,7 @@ returns : tie.Need-returns Inv-loop μ-loop
 unfolding packet packetLetter
 returns c =
     let s = c .before .before in
-    let a = c .before .before .before .before .before .before .before .before .before .args in
+    let a = c .before .before .before .before .before .before .before .before .before .before .args in
     let done : s .loop .row ≡ a .g .d = omega arith in
     summed-run (packetLength (a .g) (a .node) (a .column)) (a .g .d) 0 (t (a .node)) (λ u. matrix xors (a .g) (a .file .now) u (a .column))
     (packetLetter xors (a .g) (a .file .now) (a .node) (a .column)) (s .loop .letters) (omega (arith, s .loop .inv .1, c .before .before .before .before .before .clear .ensures .same-length))

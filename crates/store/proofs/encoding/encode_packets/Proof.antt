@@ -1,4 +1,4 @@
--- `encoding::encode_packets` meets its contract: after j turns the first j packets stand one after another at the front.
+-- `encoding::encode_packets` meets its contract: after j turns the first j packets stand one after another at the front, up to `end`.
 use native.Mathlib.Omega.{arith}
 use mathlib.Core.Path.{_≡_, refl, sym, ap, ap₂, _∙_}
 use mathlib.Core.List.{List, _++_}
@@ -13,7 +13,7 @@ use Rattle.store.specs.Lists.{joined}
 use Rattle.store.specs.Matrix.{packet, packets as product}
 use Rattle.group.proofs.Sizes.{node-at-most, packet-fits}
 use Rattle.store.proofs.Lists.{joined-more}
-use Rattle.store.proofs.Product.{packet-first, packet-next, packet-last, length-packet}
+use Rattle.store.proofs.Product.{packet-same, packet-first, packet-next, packet-last, length-packet}
 use Rattle.store.proofs.PutBack.{back, back-length, back-front}
 use borrow.Author.Needs.{needs}
 use Rattle.store.proofs.encoding.encode_packets.Statement.{statement}
@@ -34,7 +34,7 @@ lent g node r xs j start size last long starts sized =
 -- one packet more at the front
 module _ (g : Group) (node : ℕ) (r : NodeOf g node) (file xs ys : List ℕ) (j start size : ℕ) (last : j + 1 ≤ g .d)
     (long : length xs ≡ nodeLetters g node) (starts : start ≡ packetStart g node (j + 1)) (sized : size ≡ packetLength g node (j + 1))
-    (front : take (packetStart g node (j + 1)) xs ≡ joined j (packet xors g file node)) (is : ys ≡ packet xors g file node (j + 1)) where
+    (front : take start xs ≡ joined j (packet xors g file node)) (is : ys ≡ packet xors g file node (j + 1)) where
   fits : start + size ≤ length xs
   fits = omega (arith, packet-fits g node r (j + 1) (omega arith) last)
 
@@ -44,39 +44,44 @@ module _ (g : Group) (node : ℕ) (r : NodeOf g node) (file xs ys : List ℕ) (j
   kept : length (back xs ys start (start + size) (omega arith) fits filled) ≡ length xs
   kept = back-length xs ys start (start + size) (omega arith) fits filled
 
-  next : take (packetStart g node (j + 1 + 1)) (back xs ys start (start + size) (omega arith) fits filled) ≡ joined (j + 1) (packet xors g file node)
+  next : take (start + size) (back xs ys start (start + size) (omega arith) fits filled) ≡ joined (j + 1) (packet xors g file node)
   next =
-      ap (λ n. take n (back xs ys start (start + size) (omega arith) fits filled)) ends
-      ∙ back-front xs ys start (start + size) (omega arith) fits filled
-      ∙ ap₂ _++_ (ap (λ n. take n xs) starts ∙ front) is
+      back-front xs ys start (start + size) (omega arith) fits filled
+      ∙ ap₂ _++_ front is
       ∙ sym (joined-more j (packet xors g file node))
-    where
-      ends : packetStart g node (j + 1 + 1) ≡ start + size
-      ends = packet-next g node (j + 1) (omega arith) ∙ ap₂ _+_ (sym starts) (sym sized)
+
+-- the next packet starts where this one ends
+ends :
+    (g : Group) (node j start size : ℕ) → start ≡ packetStart g node (j + 1) → size ≡ packetLength g node (j + 1) → start + size ≡ packetStart g node (j + 1 + 1)
+ends g node j start size starts sized = ap₂ _+_ starts sized ∙ sym (packet-next g node (j + 1) (omega arith))
 
 abbrev Inv-loop : tie.InvT-loop
-Inv-loop g node file packets₀ j₀ packets j = (j ≤ g .d) × (length packets ≡ length packets₀) × (take (packetStart g node (j + 1)) packets ≡ joined j (packet xors g file node))
+Inv-loop g node file packets₀ table size end₀ j₀ packets end j = (j ≤ g .d) × (length packets ≡ length packets₀) × (end ≡ packetStart g node (j + 1)) × (take end packets ≡ joined j (packet xors g file node))
 
 abbrev μ-loop : tie.MeasureT-loop
-μ-loop g node file packets₀ j₀ packets j = g .d - j
+μ-loop g node file packets₀ table size end₀ j₀ packets end j = g .d - j
 
-loop-holds : tie.Need-loop-holds Inv-loop μ-loop
-unfolding joined
-loop-holds c = let s = c .before .before in
-    (omega arith, refl, ap (λ n. take n (s .args .packets .now)) (packet-first (s .args .g) (s .args .node)))
-
-add-j : tie.Need-add-j Inv-loop μ-loop
-add-j c = search needs
-
-packet-start-requires : tie.Need-packet-start-requires Inv-loop μ-loop
-packet-start-requires c κs = search needs
+all-requires : tie.Need-all-requires Inv-loop μ-loop
+all-requires c κs = search needs
 
 packet-requires : tie.Need-packet-requires Inv-loop μ-loop
 packet-requires c κs = search needs
 
+loop-holds : tie.Need-loop-holds Inv-loop μ-loop
+unfolding joined
+loop-holds c = let s = c .before .before .before .before in
+    (omega arith, refl, sym (packet-first (s .args .g) (s .args .node)), refl)
+
+add-j : tie.Need-add-j Inv-loop μ-loop
+add-j c = search needs
+
 add-end : tie.Need-add-end Inv-loop μ-loop
 add-end c = let s = c .before .before .before .before .before .before .before in
-    omega (arith, node-at-most (s .args .g) (s .args .node) (s .pre .0), packet-fits (s .args .g) (s .args .node) (s .pre .0) (c .before .before .before .before .loop .j + 1) (omega arith) (omega arith), c .before .packet-start .ensures, c .packet .ensures)
+    let l = c .before .before in
+    omega (arith, node-at-most (s .args .g) (s .args .node) (s .pre .0), packet-fits (s .args .g) (s .args .node) (s .pre .0) (l .loop .j + 1) (omega arith) (omega arith), l .loop .inv .2, c .before .before .before .packet .ensures, packet-same (s .args .g) (s .args .node) 1 (l .loop .j + 1))
+
+slice-aggregate-encode-packet : tie.Need-slice-aggregate-encode-packet Inv-loop μ-loop
+slice-aggregate-encode-packet c = search needs
 
 sub-encode-packet : tie.Need-sub-encode-packet Inv-loop μ-loop
 sub-encode-packet c = search needs
@@ -85,26 +90,36 @@ part-encode-packet-start : tie.Need-part-encode-packet-start Inv-loop μ-loop
 part-encode-packet-start c = search needs
 
 part-encode-packet-end : tie.Need-part-encode-packet-end Inv-loop μ-loop
-part-encode-packet-end c = let s = c .before .before .before .before .before .before .before in
-    omega (arith, s .pre .1 .1, c .before .before .before .before .loop .inv .1, packet-fits (s .args .g) (s .args .node) (s .pre .0) (c .before .before .before .before .loop .j + 1) (omega arith) (omega arith), c .before .packet-start .ensures, c .packet .ensures)
+part-encode-packet-end c = let s = c .before .before .before .before .before .before .before .before in
+    let l = c .before .before .before in
+    omega (arith, s .pre .1 .1, l .loop .inv .1, packet-fits (s .args .g) (s .args .node) (s .pre .0) (l .loop .j + 1) (omega arith) (omega arith), l .loop .inv .2, c .before .before .before .before .packet .ensures, packet-same (s .args .g) (s .args .node) 1 (l .loop .j + 1))
 
 encode-packet-requires : tie.Need-encode-packet-requires Inv-loop μ-loop
-encode-packet-requires c κs = let s = c .before .before .before .before .before .before .before .before in (
-  (s .pre .0, omega arith, omega arith),
-  (
-    s .pre .1 .0,
-    lent (s .args .g) (s .args .node) (s .pre .0) (c .before .before .before .before .before .loop .packets) (c .before .before .before .before .before .loop .j) _ _ (omega arith) (c .before .before .before .before .before .loop .inv .1 ∙ s .pre .1 .1)
-        (c .before .before .packet-start .ensures) (c .before .packet .ensures),
-  ),
-)
+encode-packet-requires c κs = let s = c .before .before .before .before .before .before .before .before .before in
+    let l = c .before .before .before .before in (
+      c .before .before .before .before .before .before .all .ensures,
+      (
+        (s .pre .0, omega arith, omega arith),
+        (
+          s .pre .1 .0,
+          lent (s .args .g) (s .args .node) (s .pre .0) (l .loop .packets) (l .loop .j) _ _ (omega arith) (l .loop .inv .1 ∙ s .pre .1 .1)
+              (l .loop .inv .2) (c .before .before .before .before .before .packet .ensures ∙ packet-same (s .args .g) (s .args .node) 1 (l .loop .j + 1)),
+        ),
+      ),
+    )
 
 loop-less : tie.Need-loop-less Inv-loop μ-loop
 loop-less c = search needs
 
 loop-again : tie.Need-loop-again Inv-loop μ-loop
-loop-again c = let s = c .before .before .before .before .before .before .before .before .before .before .before in
-    let l = c .before .before .before .before .before .before .before .before in
-    (omega arith, kept (s .args .g) (s .args .node) (s .pre .0) (s .args .file .now) (l .loop .packets) _ (l .loop .j) _ _ (omega arith) (l .loop .inv .1 ∙ s .pre .1 .1) (c .before .before .before .before .before .packet-start .ensures) (c .before .before .before .before .packet .ensures) (l .loop .inv .2) (c .before .before .encode-packet .ensures) ∙ l .loop .inv .1, next (s .args .g) (s .args .node) (s .pre .0) (s .args .file .now) (l .loop .packets) _ (l .loop .j) _ _ (omega arith) (l .loop .inv .1 ∙ s .pre .1 .1) (c .before .before .before .before .before .packet-start .ensures) (c .before .before .before .before .packet .ensures) (l .loop .inv .2) (c .before .before .encode-packet .ensures))
+loop-again c = let s = c .before .before .before .before .before .before .before .before .before .before .before .before in
+    let l = c .before .before .before .before .before .before .before in
+    let sized = c .before .before .before .before .before .before .before .before .packet .ensures ∙ packet-same (s .args .g) (s .args .node) 1 (l .loop .j + 1) in (
+      omega arith,
+      kept (s .args .g) (s .args .node) (s .pre .0) (s .args .file .now) (l .loop .packets) _ (l .loop .j) _ _ (omega arith) (l .loop .inv .1 ∙ s .pre .1 .1) (l .loop .inv .2) sized (l .loop .inv .3) (c .before .before .encode-packet .ensures) ∙ l .loop .inv .1,
+      ends (s .args .g) (s .args .node) (l .loop .j) _ _ (l .loop .inv .2) sized,
+      next (s .args .g) (s .args .node) (s .pre .0) (s .args .file .now) (l .loop .packets) _ (l .loop .j) _ _ (omega arith) (l .loop .inv .1 ∙ s .pre .1 .1) (l .loop .inv .2) sized (l .loop .inv .3) (c .before .before .encode-packet .ensures),
+    )
 
 same-length : tie.Need-same-length Inv-loop μ-loop
 same-length c = c .before .before .loop .inv .1
@@ -112,11 +127,11 @@ same-length c = c .before .before .loop .inv .1
 returns : tie.Need-returns Inv-loop μ-loop
 unfolding product
 returns c =
-    let s = c .before .before .before .before .before in
+    let s = c .before .before .before .before .before .before .before in
     let l = c .before .before in
     let done : l .loop .j ≡ s .args .g .d = omega arith in
-    sym (take-all (packetStart (s .args .g) (s .args .node) (l .loop .j + 1)) (l .loop .packets) (omega (arith, l .loop .inv .1, s .pre .1 .1, packet-last (s .args .g) (s .args .node), ap (λ m. packetStart (s .args .g) (s .args .node) (m + 1)) done)))
-    ∙ l .loop .inv .2
+    sym (take-all (l .loop .end) (l .loop .packets) (omega (arith, l .loop .inv .1, l .loop .inv .2, s .pre .1 .1, packet-last (s .args .g) (s .args .node), ap (λ m. packetStart (s .args .g) (s .args .node) (m + 1)) done)))
+    ∙ l .loop .inv .3
     ∙ ap (λ m. joined m (packet xors (s .args .g) (s .args .file .now) (s .args .node))) done
 
 pub encode-packets-spec : {M : Type 1} → statement M
@@ -125,11 +140,12 @@ encode-packets-spec =
     (tie.spec
     Inv-loop
     μ-loop
+    all-requires
+    packet-requires
     loop-holds
     add-j
-    packet-start-requires
-    packet-requires
     add-end
+    slice-aggregate-encode-packet
     sub-encode-packet
     part-encode-packet-start
     part-encode-packet-end

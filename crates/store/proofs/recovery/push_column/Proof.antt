@@ -9,10 +9,10 @@ use Rattle.store.proofs.recovery.push_column.Statement.{statement}
 use Rattle.store.proofs.recovery.push_column.Tie as tie
 
 abbrev Inv-loop : tie.InvT-loop
-Inv-loop g ids u buffer₀ columns count₀ c₀ buffer count c = (c ≤ columns) × (columns ≡ min (u - 1) (g .k)) × Pushed g ids u c buffer₀ buffer count × (count ≤ c * 65536)
+Inv-loop g ids rows u buffer₀ columns count₀ c₀ buffer count c = (c ≤ columns) × (columns ≡ min (u - 1) (g .k)) × Pushed g ids u c buffer₀ buffer count × (count ≤ c * 65536)
 
 abbrev μ-loop : tie.MeasureT-loop
-μ-loop g ids u buffer₀ columns count₀ c₀ buffer count c = columns - c
+μ-loop g ids rows u buffer₀ columns count₀ c₀ buffer count c = columns - c
 
 sub-least : tie.Need-sub-least Inv-loop μ-loop
 sub-least c = search needs
@@ -27,9 +27,9 @@ add-c : tie.Need-add-c Inv-loop μ-loop
 add-c c = search needs
 
 push-into-requires : tie.Need-push-into-requires Inv-loop μ-loop
-push-into-requires c κs = let s = c .before .before .before .before .before .before in
+push-into-requires c κs = let s = c .before .before .before .before .before .before .before in
     let l = c .before .before .loop in
-    (record { chosen = s .pre .0 .chosen; long = l .inv .2 .same-length ∙ s .pre .0 .long }, omega arith, omega arith, omega arith, omega arith)
+    (record { chosen = s .pre .0 .chosen; long = l .inv .2 .same-length ∙ s .pre .0 .long }, s .pre .1, omega arith, omega arith, omega arith, omega arith)
 
 add-count : tie.Need-add-count Inv-loop μ-loop
 add-count c = omega (arith, c .before .before .push-into .ensures .1)
@@ -50,7 +50,7 @@ same-length c = c .before .loop .inv .2 .same-length
 
 returns : tie.Need-returns Inv-loop μ-loop
 returns c = let l = c .before .loop in
-    let s = c .before .before .before .before .before in
+    let s = c .before .before .before .before .before .before in
     let done : l .c ≡ min (s .args .u - 1) (s .args .g .k) = omega arith in
     (subst (λ m. Pushed (s .args .g) (s .args .ids .now) (s .args .u) m (s .args .buffer .now) (l .buffer) (l .count)) done (l .inv .2), omega arith)
 

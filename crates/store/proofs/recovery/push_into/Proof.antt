@@ -9,10 +9,10 @@ use Rattle.store.proofs.recovery.push_into.Statement.{statement}
 use Rattle.store.proofs.recovery.push_into.Tie as tie
 
 abbrev Inv-loop : tie.InvT-loop
-Inv-loop g ids u c buffer₀ count₀ w₀ buffer count w = (w ≤ c) × PushedInto g ids u c w buffer₀ buffer count × (count ≤ w * 4096)
+Inv-loop g ids rows u c buffer₀ count₀ w₀ buffer count w = (w ≤ c) × PushedInto g ids u c w buffer₀ buffer count × (count ≤ w * 4096)
 
 abbrev μ-loop : tie.MeasureT-loop
-μ-loop g ids u c buffer₀ count₀ w₀ buffer count w = c - w
+μ-loop g ids rows u c buffer₀ count₀ w₀ buffer count w = c - w
 
 loop-holds : tie.Need-loop-holds Inv-loop μ-loop
 loop-holds c = (omega arith, into-none _ _ _ _ _, omega arith)
@@ -21,9 +21,9 @@ add-w : tie.Need-add-w Inv-loop μ-loop
 add-w c = search needs
 
 push-run-requires : tie.Need-push-run-requires Inv-loop μ-loop
-push-run-requires c κs = let s = c .before .before .before .before .before in
+push-run-requires c κs = let s = c .before .before .before .before .before .before in
     let l = c .before .before .loop in
-    (record { chosen = s .pre .0 .chosen; long = l .inv .1 .same-length ∙ s .pre .0 .long }, omega arith, omega arith, omega arith, omega arith, omega arith)
+    (record { chosen = s .pre .0 .chosen; long = l .inv .1 .same-length ∙ s .pre .0 .long }, s .pre .1, omega arith, omega arith, omega arith, omega arith, omega arith)
 
 add-count : tie.Need-add-count Inv-loop μ-loop
 add-count c = omega (arith, c .before .before .push-run .ensures .1)
@@ -43,7 +43,7 @@ same-length c = c .before .loop .inv .1 .same-length
 
 returns : tie.Need-returns Inv-loop μ-loop
 returns c = let l = c .before .loop in
-    let s = c .before .before .before .before in
+    let s = c .before .before .before .before .before in
     let done : l .w ≡ s .args .c = omega arith in
     (subst (λ m. PushedInto (s .args .g) (s .args .ids .now) (s .args .u) (s .args .c) m (s .args .buffer .now) (l .buffer) (l .count)) done (l .inv .1), omega arith)
 

@@ -55,6 +55,7 @@ push-column-requires c κs =
         long =
             middle-length (s .args .g) (s .args .ids .now) (s .args .buffer .now) (s .pre .0) (s .args .u) (omega arith) (omega arith) _ _ (ap (λ m. m * s .args .g .l) (c .before .before .before .before .before .before .before .sequences-before .ensures .0)) (ap (λ m. c .before .before .before .before .before .before .before .sequences-before .result * s .args .g .l + m * s .args .g .l) (c .before .before .before .before .before .before .before .before .least .ensures)) (v .last .0) (v .ensures .same-length ∙ lent-size (s .args .g) (s .args .ids .now) (s .args .buffer .now) (s .pre .0) (s .args .u) (omega arith) (omega arith) _ _ (ap (λ m. m * s .args .g .l) (c .before .before .before .before .before .before .before .sequences-before .ensures .0)) (ap (λ m. c .before .before .before .before .before .before .before .sequences-before .result * s .args .g .l + m * s .args .g .l) (c .before .before .before .before .before .before .before .before .least .ensures))) ∙ s .pre .0 .long;
       },
+      s .pre .1,
       omega arith,
       omega arith,
     )
