@@ -1,13 +1,19 @@
 -- `entries::free_start` meets its contract: entry (v,u) is sequence before(u) + v.
 use native.Mathlib.Omega.{arith}
 use mathlib.Core.Path.{ap, sym, _∙_}
-use Prim.Native.Nat.{_+_, _-_, _*_}
+use Prim.Native.Nat.{ℕ, _+_, _-_, _*_, _≤_}
 use native.Mathlib.Nat.{mul-le-mul}
+use mir.Syntax.{w64}
+use mir.Val.{Fits}
 use Rattle.store.specs.Matrix.{entryNumber}
 use Rattle.store.proofs.Columns.{entry-fits}
 use borrow.Author.Needs.{needs}
 use Rattle.store.proofs.entries.free_start.Statement.{statement}
 use Rattle.store.proofs.entries.free_start.Tie as tie
+
+-- so many letters fit, whatever number of sequences up to 400 stands before
+fits : (m l : ℕ) → m ≤ 400 → l ≤ 4096 → Fits w64 (m * l)
+fits m l hm hl = record { fits = omega (arith, mul-le-mul {n₁ = m} {m₁ = l} {n₂ = 400} {m₂ = 4096} hm hl) }
 
 sequences-before-requires : tie.Need-sequences-before-requires
 sequences-before-requires c κs = search needs
@@ -19,9 +25,7 @@ sub-result : tie.Need-sub-result
 sub-result c = search needs
 
 mul-result : tie.Need-mul-result
-mul-result c = let a = c .before .before .args in
-    omega
-    (arith, mul-le-mul {n₁ = c .before .sequences-before .result + a .row - 1} {m₁ = a .g .l} {n₂ = 400} {m₂ = 4096} (omega arith) (omega arith))
+mul-result c = fits _ _ (omega arith) (omega arith)
 
 returns : tie.Need-returns
 unfolding entryNumber
