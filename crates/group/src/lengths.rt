@@ -3,6 +3,7 @@ use crate::Group;
 ghost use mathlib.Core.Path.{_≡_};
 ghost use Prim.Native.Nat.{_+_, _≤_};
 ghost use Rattle.shifts.specs.Rule.{t};
+ghost use Rattle.shifts.specs.Table.{Table};
 ghost use Rattle.group.specs.Lengths.{sequences, fileLetters, packetLength, packetStart, nodeLetters, repairLetters, shareBytes};
 ghost use Rattle.group.specs.Ranges.{InRange, NodeOf};
 
@@ -22,12 +23,22 @@ pub fn file(g: Group) -> usize
     sequences_of(g) * g.l
 }
 
-// A sequence's letters and the most that a node moves one by: L + t(i,d).
+// A sequence's letters and the most that a node moves one by: L + t(i,d). The table is lent, for who needs it for more than this.
+pub fn widened_in(table: &[u8], g: Group, node: usize) -> usize
+    requires table { ⌜ Table (now table) ⌝ }
+    requires node { ⌜ NodeOf g node ⌝ }
+    ensures { λ r. ⌜ (r ≡ g .l + t node (g .d)) × (r ≤ 4321) ⌝ }
+{
+    g.l + shifts::shift_in(table, node, g.d)
+}
+
+// The same for this alone.
 fn widened(g: Group, node: usize) -> usize
     requires { ⌜ NodeOf g node ⌝ }
     ensures { λ r. ⌜ (r ≡ g .l + t node (g .d)) × (r ≤ 4321) ⌝ }
 {
-    g.l + shifts::shift(node, g.d)
+    let table = shifts::all();
+    widened_in(&table, g, node)
 }
 
 // The letters of a packet of a node.

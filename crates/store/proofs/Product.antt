@@ -35,6 +35,15 @@ pub packet-same : (g : Group) (i j j′ : ℕ) → packetLength g i j ≡ packet
 unfolding packetLength
 packet-same g i j j′ = refl
 
+-- L + t(i,d), of which the packets and what the node holds are made up
+pub wide-packet : (g : Group) (i m : ℕ) → m ≡ g .l + t i (g .d) → m ≡ packetLength g i 1
+unfolding packetLength
+wide-packet g i m e = e
+
+pub wide-node : (g : Group) (i m : ℕ) → m ≡ g .l + t i (g .d) → g .d * m ≡ nodeLetters g i
+unfolding nodeLetters
+wide-node g i m e = ap (λ n. g .d * n) e
+
 -- one packet ends where the next starts
 pub packet-next : (g : Group) (i j : ℕ) → 1 ≤ j → packetStart g i (j + 1) ≡ packetStart g i j + packetLength g i j
 unfolding packetStart packetLength

@@ -11,7 +11,7 @@ use Rattle.letters.proofs.Places.{letter-of-part}
 use Rattle.letters.proofs.Sums.{sum-more, sum-none-terms}
 use Rattle.store.specs.Lists.{run}
 use Rattle.store.specs.Matrix.{moved}
-use Rattle.store.specs.Steps.{Cleared, Adds, Seen, Summed}
+use Rattle.store.specs.Steps.{Zeros, Adds, Seen, Summed}
 use Rattle.store.proofs.Lists.{is-run}
 
 -- what a run adds is what the sequence adds that it holds
@@ -41,10 +41,10 @@ part-adds xs x start n end skip lead lead′ before after fits e same is seen =
     (λ p. letter-of-part 0 xs start n p fits ∙ is p)
     (subst (λ m. Seen (take m (drop start xs)) skip lead′ before after) size (subst (λ m. Seen (take (end - start) (drop start xs)) skip m before after) same seen))
 
-pub summed-none : (skip : ℕ) (shift : ℕ → ℕ) (x : ℕ → ℕ → ℕ) (before after : List ℕ) → Cleared before after → Summed 0 skip shift x after
+pub summed-none : (skip : ℕ) (shift : ℕ → ℕ) (x : ℕ → ℕ → ℕ) (letters : List ℕ) → Zeros letters → Summed 0 skip shift x letters
 unfolding moved
-summed-none skip shift x before after c =
-    record { sums = λ q h. c .zero q ∙ sym (sum-none-terms xors (λ u. x u ((q + 1 + skip) - shift u))) }
+summed-none skip shift x letters z =
+    record { sums = λ q h. z .zero q ∙ sym (sum-none-terms xors (λ u. x u ((q + 1 + skip) - shift u))) }
 
 pub summed-more :
     (n skip : ℕ) (shift : ℕ → ℕ) (x : ℕ → ℕ → ℕ) (before after : List ℕ) → Summed n skip shift x before

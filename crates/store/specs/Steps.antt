@@ -11,10 +11,14 @@ use Rattle.group.specs.declared.Group.{Group}
 use Rattle.group.specs.Ranges.{InRange}
 use Rattle.store.specs.Matrix.{moved}
 
--- the buffer is all zero
+-- all letters are zero
+pub record Zeros (letters : List ℕ) : Type 0 where
+  pub zero : (q : ℕ) → getD letters q 0 ≡ 0
+
+-- the buffer is made all zero
 pub record Cleared (before after : List ℕ) : Type 0 where
   pub same-length : length after ≡ length before
-  pub zero : (q : ℕ) → getD after q 0 ≡ 0
+  pub zeros : Zeros after
 
 -- each letter p has letter p + skip - lead of x added: x moved right by lead, seen through a window that leaves out its first skip places
 pub record Adds (x : ℕ → ℕ) (skip lead : ℕ) (before after : List ℕ) : Type 0 where

@@ -14,7 +14,7 @@ ghost use Rattle.group.specs.Ranges.{NodeOf};
 ghost use Rattle.group.specs.Lengths.{fileLetters, nodeLetters, packetLength};
 ghost use Rattle.store.specs.Matrix.{matrix, packet, packets as product};
 ghost use Rattle.store.specs.Calls.{Encoded};
-ghost use Rattle.store.specs.Steps.{Adds};
+ghost use Rattle.store.specs.Steps.{Adds, Zeros};
 
 // Fills `packets` with the d packets of `node`, letter for letter the matrix product of the file.
 // `file` has exactly B*L letters (else 5) and `packets` exactly T (else 6); refusals 1, 2 and 3 come before.
@@ -33,36 +33,37 @@ fn encode_exact(g: Group, node: usize, file: &[u8], packets: &mut [u8]) -> Answe
     requires { ⌜ NodeOf g node ⌝ }
     ensures { λ r. ⌜ Encoded g node (now (file .entry)) (now (packets .entry)) (now (packets .exit)) r ⌝ }
 {
+    let table = shifts::all();
+    let size = group::lengths::widened_in(&table, g, node);
     let wanted_file = group::lengths::file(g);
-    let wanted_packets = group::lengths::node(g, node);
-    match group::checks::lengths(file.len(), wanted_file, packets.len(), wanted_packets) {
+    match group::checks::lengths(file.len(), wanted_file, packets.len(), g.d * size) {
         Check::Refused(refusal) => Answer::Refused(refusal),
         Check::Fine => {
-            encode_packets(g, node, file, packets);
+            encode_packets(g, node, size, &table, file, packets);
             Answer::Value(0)
         }
     }
 }
 
-// The d packets, one after another, all of one length.
-fn encode_packets(g: Group, node: usize, file: &[u8], packets: &mut [u8])
-    requires node { ⌜ NodeOf g node ⌝ }
+// The d packets, one after another, all of `size` letters.
+fn encode_packets(g: Group, node: usize, size: usize, table: &[u8], file: &[u8], packets: &mut [u8])
+    requires table { ⌜ Table (now table) ⌝ }
+    requires node { ⌜ (NodeOf g node) × (size ≡ packetLength g node 1) ⌝ }
     requires lengths { ⌜ (length (now file) ≡ fileLetters g) × (length (now packets) ≡ nodeLetters g node) ⌝ }
     ensures { λ r. ⌜ now (packets .exit) ≡ product xors g (now (file .entry)) node ⌝ }
 {
-    let table = shifts::all();
-    let size = group::lengths::packet(g, node, 1);
+    windows::clear(packets);
     let mut end = 0;
     let mut j = 0;
     while j < g.d {
         j += 1;
         let start = end;
         end = start + size;
-        encode_packet(g, node, j, &table, file, &mut packets[start..end]);
+        encode_packet(g, node, j, table, file, &mut packets[start..end]);
     }
 }
 
-// Packet `column` of the node: the sum of the column's d entries, each moved right by the node's shift of its row.
+// Packet `column` of the node, from zeros: the sum of the column's d entries, each moved right by the node's shift of its row.
 fn encode_packet(
     g: Group,
     node: usize,
@@ -73,10 +74,9 @@ fn encode_packet(
 )
     requires table { ⌜ Table (now table) ⌝ }
     requires node { ⌜ (NodeOf g node) × (1 ≤ column) × (column ≤ g .d) ⌝ }
-    requires lengths { ⌜ (length (now file) ≡ fileLetters g) × (length (now letters) ≡ packetLength g node column) ⌝ }
+    requires lengths { ⌜ (length (now file) ≡ fileLetters g) × (length (now letters) ≡ packetLength g node column) × Zeros (now letters) ⌝ }
     ensures { λ r. ⌜ now (letters .exit) ≡ packet xors g (now (file .entry)) node column ⌝ }
 {
-    windows::clear(letters);
     let mut row = 0;
     while row < g.d {
         row += 1;

@@ -7,9 +7,10 @@ use group::Refusal;
 ghost use mathlib.Core.Path.{_≡_};
 ghost use lib.ListN.{length};
 ghost use Rattle.letters.specs.Algebra.{xors};
+ghost use Rattle.shifts.specs.Table.{Table};
 ghost use Rattle.group.specs.Answers.{checkNumber};
 ghost use Rattle.group.specs.Ranges.{NodeOf};
-ghost use Rattle.group.specs.Lengths.{nodeLetters, repairLetters};
+ghost use Rattle.group.specs.Lengths.{packetLength, nodeLetters, repairLetters};
 ghost use Rattle.store.specs.Repair.{helping};
 ghost use Rattle.store.specs.Calls.{helperRefusal, Helped, Helper};
 
@@ -78,26 +79,35 @@ fn help_exact(
     requires { ⌜ Helper g lost helper rank ⌝ }
     ensures { λ r. ⌜ Helped g lost helper rank (now (packets .entry)) (now (piece .entry)) (now (piece .exit)) r ⌝ }
 {
-    let wanted_packets = group::lengths::node(g, helper);
-    let wanted_piece = group::lengths::repair(g, lost);
-    match group::checks::lengths(packets.len(), wanted_packets, piece.len(), wanted_piece) {
+    let table = shifts::all();
+    let size = group::lengths::widened_in(&table, g, helper);
+    let wanted = group::lengths::widened_in(&table, g, lost);
+    match group::checks::lengths(packets.len(), g.d * size, piece.len(), wanted) {
         Check::Refused(refusal) => Answer::Refused(refusal),
         Check::Fine => {
-            sum_packets(g, lost, helper, rank, packets, piece);
+            sum_packets(g, lost, helper, rank, size, &table, packets, piece);
             Answer::Value(0)
         }
     }
 }
 
-// The sum over the helper's packets, each moved right by t(lost, j), as the window of its rank sees it.
-fn sum_packets(g: Group, lost: usize, helper: usize, rank: usize, packets: &[u8], piece: &mut [u8])
-    requires helper { ⌜ Helper g lost helper rank ⌝ }
+// The sum over the helper's packets, of `size` letters each, each moved right by t(lost, j), as the window of its rank sees it.
+fn sum_packets(
+    g: Group,
+    lost: usize,
+    helper: usize,
+    rank: usize,
+    size: usize,
+    table: &[u8],
+    packets: &[u8],
+    piece: &mut [u8],
+)
+    requires table { ⌜ Table (now table) ⌝ }
+    requires helper { ⌜ (Helper g lost helper rank) × (size ≡ packetLength g helper 1) ⌝ }
     requires lengths { ⌜ (length (now packets) ≡ nodeLetters g helper) × (length (now piece) ≡ repairLetters g lost) ⌝ }
     ensures { λ r. ⌜ now (piece .exit) ≡ helping xors g lost helper rank (now (packets .entry)) ⌝ }
 {
-    let table = shifts::all();
-    let skip = shifts::shift_in(&table, helper, rank);
-    let size = group::lengths::packet(g, helper, 1);
+    let skip = shifts::shift_in(table, helper, rank);
     windows::clear(piece);
     let mut end = 0;
     let mut j = 0;
@@ -105,7 +115,7 @@ fn sum_packets(g: Group, lost: usize, helper: usize, rank: usize, packets: &[u8]
         j += 1;
         let start = end;
         end = start + size;
-        let lead = shifts::shift_in(&table, lost, j);
+        let lead = shifts::shift_in(table, lost, j);
         windows::add_seen(piece, &packets[start..end], skip, lead);
     }
 }

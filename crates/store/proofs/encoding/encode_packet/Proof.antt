@@ -20,18 +20,15 @@ Inv-loop g node column table file letters₀ row₀ letters row = (row ≤ g .d)
 abbrev μ-loop : tie.MeasureT-loop
 μ-loop g node column table file letters₀ row₀ letters row = g .d - row
 
-clear-requires : tie.Need-clear-requires Inv-loop μ-loop
-clear-requires c κs = search needs
-
 loop-holds : tie.Need-loop-holds Inv-loop μ-loop
-loop-holds c = (omega arith, refl, summed-none 0 _ _ _ _ (c .before .before .clear .ensures))
+loop-holds c = (omega arith, refl, summed-none 0 _ _ _ (c .before .before .before .pre .1 .1 .2))
 
 add-row : tie.Need-add-row Inv-loop μ-loop
 add-row c = search needs
 
 add-entry-requires : tie.Need-add-entry-requires Inv-loop μ-loop
-add-entry-requires c κs = let s = c .before .before .before .before .before .before .before .before .before .before .before in
-    (s .pre .0, ((s .pre .1 .0 .0, omega arith, omega arith, omega arith, omega arith), (s .pre .1 .1 .0, c .before .before .before .loop .inv .1 ∙ c .before .before .before .before .before .before .clear .ensures .same-length ∙ s .pre .1 .1 .1)))
+add-entry-requires c κs = let s = c .before .before .before .before .before .before .before in
+    (s .pre .0, ((s .pre .1 .0 .0, omega arith, omega arith, omega arith, omega arith), (s .pre .1 .1 .0, c .before .before .before .loop .inv .1 ∙ s .pre .1 .1 .1)))
 
 loop-less : tie.Need-loop-less Inv-loop μ-loop
 loop-less c = search needs
@@ -44,17 +41,16 @@ loop-again c = let s = c .before .before .before .before .before .before in (
 )
 
 same-length : tie.Need-same-length Inv-loop μ-loop
-same-length c = let s = c .before .before in
-    s .loop .inv .1 ∙ c .before .before .before .before .before .clear .ensures .same-length
+same-length c = c .before .before .loop .inv .1
 
 returns : tie.Need-returns Inv-loop μ-loop
 unfolding packet packetLetter
 returns c =
     let s = c .before .before in
-    let a = c .before .before .before .before .before .before .before .before .before .before .args in
+    let a = c .before .before .before .before .before .before .args in
     let done : s .loop .row ≡ a .g .d = omega arith in
     summed-run (packetLength (a .g) (a .node) (a .column)) (a .g .d) 0 (t (a .node)) (λ u. matrix xors (a .g) (a .file .now) u (a .column))
-    (packetLetter xors (a .g) (a .file .now) (a .node) (a .column)) (s .loop .letters) (omega (arith, s .loop .inv .1, c .before .before .before .before .before .clear .ensures .same-length))
+    (packetLetter xors (a .g) (a .file .now) (a .node) (a .column)) (s .loop .letters) (s .loop .inv .1 ∙ c .before .before .before .before .before .before .pre .1 .1 .1)
     (subst (λ m. Summed m 0 (t (a .node)) (λ u. matrix xors (a .g) (a .file .now) u (a .column)) (s .loop .letters)) done (s .loop .inv .2))
     (λ p. ap (moved xors (a .g .d) (t (a .node)) (λ u. matrix xors (a .g) (a .file .now) u (a .column))) (sym (add-zero p)))
 
@@ -64,7 +60,6 @@ encode-packet-spec =
     (tie.spec
     Inv-loop
     μ-loop
-    clear-requires
     loop-holds
     add-row
     add-entry-requires

@@ -33,40 +33,28 @@ packet-adds g helper lost rank n held before after j start size skip lead last l
     (λ p. ap₂ (λ a m. letter 0 held a m p) starts sized) seen)
 
 abbrev Inv-loop : tie.InvT-loop
-Inv-loop g lost helper rank packets piece₀ table skip size end₀ j₀ piece end j = (j ≤ g .d) × (length piece ≡ length piece₀) × (end ≡ packetStart g helper (j + 1)) × Summed j (t helper rank) (t lost) (heldLetter xors g helper packets) piece
+Inv-loop g lost helper rank size table packets piece₀ skip end₀ j₀ piece end j = (j ≤ g .d) × (length piece ≡ length piece₀) × (end ≡ packetStart g helper (j + 1)) × Summed j (t helper rank) (t lost) (heldLetter xors g helper packets) piece
 
 abbrev μ-loop : tie.MeasureT-loop
-μ-loop g lost helper rank packets piece₀ table skip size end₀ j₀ piece end j = g .d - j
-
-all-requires : tie.Need-all-requires Inv-loop μ-loop
-all-requires c κs = search needs
-
-slice-aggregate-shift-in : tie.Need-slice-aggregate-shift-in Inv-loop μ-loop
-slice-aggregate-shift-in c = search needs
+μ-loop g lost helper rank size table packets piece₀ skip end₀ j₀ piece end j = g .d - j
 
 shift-in-requires : tie.Need-shift-in-requires Inv-loop μ-loop
 shift-in-requires c κs = search needs
-
-packet-requires : tie.Need-packet-requires Inv-loop μ-loop
-packet-requires c κs = search needs
 
 clear-requires : tie.Need-clear-requires Inv-loop μ-loop
 clear-requires c κs = search needs
 
 loop-holds : tie.Need-loop-holds Inv-loop μ-loop
-loop-holds c = let s = c .before .before .before .before .before .before .before .before .before .before in
-    (omega arith, refl, sym (packet-first (s .args .g) (s .args .helper)), summed-none _ _ _ _ _ (c .before .before .clear .ensures))
+loop-holds c = let s = c .before .before .before .before .before .before .before .before in
+    (omega arith, refl, sym (packet-first (s .args .g) (s .args .helper)), summed-none _ _ _ _ (c .before .before .clear .ensures .zeros))
 
 add-j : tie.Need-add-j Inv-loop μ-loop
 add-j c = search needs
 
 add-end : tie.Need-add-end Inv-loop μ-loop
-add-end c = let s = c .before .before .before .before .before .before .before .before .before .before .before .before .before in
+add-end c = let s = c .before .before .before .before .before .before .before .before .before .before .before in
     let l = c .before .before in
-    omega (arith, node-at-most (s .args .g) (s .args .helper) (s .pre .0 .other), packet-fits (s .args .g) (s .args .helper) (s .pre .0 .other) (l .loop .j + 1) (omega arith) (omega arith), l .loop .inv .2, c .before .before .before .before .before .before .before .packet .ensures, packet-same (s .args .g) (s .args .helper) 1 (l .loop .j + 1))
-
-slice-aggregate-shift-in-2 : tie.Need-slice-aggregate-shift-in-2 Inv-loop μ-loop
-slice-aggregate-shift-in-2 c = search needs
+    omega (arith, node-at-most (s .args .g) (s .args .helper) (s .pre .1 .0 .0 .other), packet-fits (s .args .g) (s .args .helper) (s .pre .1 .0 .0 .other) (l .loop .j + 1) (omega arith) (omega arith), l .loop .inv .2, s .pre .1 .0 .1, packet-same (s .args .g) (s .args .helper) 1 (l .loop .j + 1))
 
 shift-in-requires-2 : tie.Need-shift-in-requires-2 Inv-loop μ-loop
 shift-in-requires-2 c κs = search needs
@@ -78,9 +66,9 @@ part-add-seen-start : tie.Need-part-add-seen-start Inv-loop μ-loop
 part-add-seen-start c = search needs
 
 part-add-seen-end : tie.Need-part-add-seen-end Inv-loop μ-loop
-part-add-seen-end c = let s = c .before .before .before .before .before .before .before .before .before .before .before .before .before .before .before .before in
-    let l = c .before .before .before .before .before in
-    omega (arith, s .pre .1 .0, packet-fits (s .args .g) (s .args .helper) (s .pre .0 .other) (l .loop .j + 1) (omega arith) (omega arith), l .loop .inv .2, c .before .before .before .before .before .before .before .before .before .before .packet .ensures, packet-same (s .args .g) (s .args .helper) 1 (l .loop .j + 1))
+part-add-seen-end c = let s = c .before .before .before .before .before .before .before .before .before .before .before .before .before in
+    let l = c .before .before .before .before in
+    omega (arith, s .pre .1 .1 .0, packet-fits (s .args .g) (s .args .helper) (s .pre .1 .0 .0 .other) (l .loop .j + 1) (omega arith) (omega arith), l .loop .inv .2, s .pre .1 .0 .1, packet-same (s .args .g) (s .args .helper) 1 (l .loop .j + 1))
 
 add-seen-requires : tie.Need-add-seen-requires Inv-loop μ-loop
 add-seen-requires c κs = search needs
@@ -89,14 +77,14 @@ loop-less : tie.Need-loop-less Inv-loop μ-loop
 loop-less c = search needs
 
 loop-again : tie.Need-loop-again Inv-loop μ-loop
-loop-again c = let s = c .before .before .before .before .before .before .before .before .before .before .before .before .before .before .before .before .before .before .before .before in
-    let l = c .before .before .before .before .before .before .before .before .before in
-    let sized = c .before .before .before .before .before .before .before .before .before .before .before .before .before .before .packet .ensures ∙ packet-same (s .args .g) (s .args .helper) 1 (l .loop .j + 1) in (
+loop-again c = let s = c .before .before .before .before .before .before .before .before .before .before .before .before .before .before .before .before .before in
+    let l = c .before .before .before .before .before .before .before .before in
+    let sized = s .pre .1 .0 .1 ∙ packet-same (s .args .g) (s .args .helper) 1 (l .loop .j + 1) in (
       omega arith,
       c .before .before .add-seen .ensures .same-length ∙ l .loop .inv .1,
       ap₂ _+_ (l .loop .inv .2) sized ∙ sym (packet-next (s .args .g) (s .args .helper) (l .loop .j + 1) (omega arith)),
       summed-more (l .loop .j) _ _ _ _ _ (l .loop .inv .3)
-          (packet-adds (s .args .g) (s .args .helper) (s .args .lost) (s .args .rank) (s .pre .0 .other) (s .args .packets .now) _ _ (l .loop .j) _ _ _ _ (omega arith) (s .pre .1 .0) (l .loop .inv .2) sized (c .before .before .before .before .before .before .before .before .before .before .before .before .before .before .before .shift-in .ensures) (c .before .before .before .before .before .shift-in2 .ensures) (c .before .before .add-seen .ensures)),
+          (packet-adds (s .args .g) (s .args .helper) (s .args .lost) (s .args .rank) (s .pre .1 .0 .0 .other) (s .args .packets .now) _ _ (l .loop .j) _ _ _ _ (omega arith) (s .pre .1 .1 .0) (l .loop .inv .2) sized (c .before .before .before .before .before .before .before .before .before .before .before .before .before .shift-in .ensures) (c .before .before .before .before .before .shift-in2 .ensures) (c .before .before .add-seen .ensures)),
     )
 
 same-length : tie.Need-same-length Inv-loop μ-loop
@@ -105,11 +93,11 @@ same-length c = c .before .before .loop .inv .1 ∙ c .before .before .before .b
 returns : tie.Need-returns Inv-loop μ-loop
 unfolding helping helperSum
 returns c = let l = c .before .before in
-    let s = c .before .before .before .before .before .before .before .before .before .before .before .before .before in
+    let s = c .before .before .before .before .before .before .before .before .before .before .before in
     let a = s .args in
     let done : l .loop .j ≡ a .g .d = omega arith in
     summed-run (repairLetters (a .g) (a .lost)) (a .g .d) (t (a .helper) (a .rank)) (t (a .lost)) (heldLetter xors (a .g) (a .helper) (a .packets .now))
-    (λ p. helperSum xors (a .g) (a .lost) (a .helper) (a .packets .now) (p + t (a .helper) (a .rank))) (l .loop .piece) (l .loop .inv .1 ∙ c .before .before .before .before .before .clear .ensures .same-length ∙ s .pre .1 .1)
+    (λ p. helperSum xors (a .g) (a .lost) (a .helper) (a .packets .now) (p + t (a .helper) (a .rank))) (l .loop .piece) (l .loop .inv .1 ∙ c .before .before .before .before .before .clear .ensures .same-length ∙ s .pre .1 .1 .1)
     (subst (λ m. Summed m (t (a .helper) (a .rank)) (t (a .lost)) (heldLetter xors (a .g) (a .helper) (a .packets .now)) (l .loop .piece)) done (l .loop .inv .3))
     (λ p. refl)
 
@@ -119,15 +107,11 @@ sum-packets-spec =
     (tie.spec
     Inv-loop
     μ-loop
-    all-requires
-    slice-aggregate-shift-in
     shift-in-requires
-    packet-requires
     clear-requires
     loop-holds
     add-j
     add-end
-    slice-aggregate-shift-in-2
     shift-in-requires-2
     sub-add-seen
     part-add-seen-start

@@ -44,7 +44,7 @@ returns : tie.Need-returns Inv-loop μ-loop
 returns c = let s = c .before in
     record {
       same-length = s .loop .inv .1;
-      zero = λ q. ⊎-elim (λ past. List·getD-eq-default (s .loop .letters) 0 past) (λ h. s .loop .inv .2 q (omega arith)) (le-or-lt (length (s .loop .letters)) q);
+      zeros = record { zero = λ q. ⊎-elim (λ past. List·getD-eq-default (s .loop .letters) 0 past) (λ h. s .loop .inv .2 q (omega arith)) (le-or-lt (length (s .loop .letters)) q) };
     }
 
 pub clear-spec : {M : Type 1} → statement M
