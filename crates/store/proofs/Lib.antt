@@ -1,6 +1,7 @@
 -- Laws of the definitions, and the theorems of demands 2 and 3.
 pub mod Lists
 pub mod Columns
+pub mod EntryStarts
 pub mod Sequences
 pub mod Files
 pub mod Product

@@ -19,6 +19,11 @@ unfoldable pub entryNumber : ℕ → ℕ → ℕ → ℕ
 unfolding before
 entryNumber k v u = before k u + v
 
+-- where entry (v,u) starts in the file, on either side of the diagonal
+unfoldable pub entryStart : Group → ℕ → ℕ → ℕ
+unfolding entryNumber
+entryStart g v u = (entryNumber (g .k) (min v u) (max v u) - 1) * g .l
+
 -- letters given by entry and place, laid out as a file: column by column, and in column u the free entries from v = 1 to min(u,k)
 unfoldable pub asFile : {A : Type 0} → Group → (ℕ → ℕ → ℕ → A) → List A
 unfolding run joined

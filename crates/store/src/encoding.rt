@@ -12,7 +12,7 @@ ghost use Rattle.shifts.specs.Rule.{t};
 ghost use Rattle.shifts.specs.Table.{Table};
 ghost use Rattle.group.specs.Ranges.{NodeOf};
 ghost use Rattle.group.specs.Lengths.{fileLetters, nodeLetters, packetLength};
-ghost use Rattle.store.specs.Matrix.{matrix, packet, packets as product};
+ghost use Rattle.store.specs.Matrix.{entryStart, matrix, packet, packets as product};
 ghost use Rattle.store.specs.Calls.{Encoded};
 ghost use Rattle.store.specs.Steps.{Adds, Zeros};
 
@@ -77,25 +77,28 @@ fn encode_packet(
     requires lengths { ⌜ (length (now file) ≡ fileLetters g) × (length (now letters) ≡ packetLength g node column) × Zeros (now letters) ⌝ }
     ensures { λ r. ⌜ now (letters .exit) ≡ packet xors g (now (file .entry)) node column ⌝ }
 {
+    let mut start = entries::free_start(g, 1, column);
     let mut row = 0;
     while row < g.d {
         row += 1;
-        add_entry(g, node, column, row, table, file, letters);
+        add_entry(g, node, column, row, start, table, file, letters);
+        start = entries::next_start(g, row, column, start);
     }
 }
 
-// Adds entry (row, column) of the matrix, moved right by t(node, row), to a packet. In the zero corner there is nothing to add.
+// Adds entry (row, column) of the matrix, which starts at index `start` of the file, moved right by t(node, row), to a packet. In the zero corner there is nothing to add.
 fn add_entry(
     g: Group,
     node: usize,
     column: usize,
     row: usize,
+    start: usize,
     table: &[u8],
     file: &[u8],
     letters: &mut [u8],
 )
     requires table { ⌜ Table (now table) ⌝ }
-    requires node { ⌜ (NodeOf g node) × (1 ≤ column) × (column ≤ g .d) × (1 ≤ row) × (row ≤ g .d) ⌝ }
+    requires node { ⌜ (NodeOf g node) × (1 ≤ column) × (column ≤ g .d) × (1 ≤ row) × (row ≤ g .d) × (start ≡ entryStart g row column) ⌝ }
     requires lengths { ⌜ (length (now file) ≡ fileLetters g) × (length (now letters) ≡ packetLength g node column) ⌝ }
     ensures { λ r. ⌜ Adds (matrix xors g (now (file .entry)) row column) 0 (t node row) (now (letters .entry)) (now (letters .exit)) ⌝ }
 {
@@ -104,7 +107,6 @@ fn add_entry(
             return;
         }
     }
-    let start = entries::entry_start(g, row, column);
     let end = start + g.l;
     let shift = shifts::shift_in(table, node, row);
     letters::add_run(letters, shift, &file[start..end]);

@@ -1,10 +1,11 @@
 // Where the matrix's entries stand in a file, and in the collector's buffer, which is laid out the same.
+use crate::windows;
 use group::Group;
 ghost use mathlib.Core.Path.{_≡_};
-ghost use Prim.Native.Nat.{_+_, _-_, _*_, _≤_, min, max};
+ghost use Prim.Native.Nat.{_+_, _-_, _*_, _≤_};
 ghost use Rattle.group.specs.Ranges.{InRange};
 ghost use Rattle.group.specs.Lengths.{fileLetters};
-ghost use Rattle.store.specs.Matrix.{before, entryNumber};
+ghost use Rattle.store.specs.Matrix.{before, entryNumber, entryStart};
 ghost use Rattle.store.specs.Steps.{Free};
 
 // How many sequences stand before a column.
@@ -26,13 +27,15 @@ pub fn free_start(g: Group, row: usize, column: usize) -> usize
     (sequences_before(g.k, column) + row - 1) * g.l
 }
 
-// The same for an entry above or below the diagonal, of which at most one number exceeds k: the matrix is symmetric.
-pub fn entry_start(g: Group, row: usize, column: usize) -> usize
-    requires { ⌜ Free g (min row column) (max row column) ⌝ }
-    ensures { λ r. ⌜ (r ≡ (entryNumber (g .k) (min row column) (max row column) - 1) * g .l) × (r + g .l ≤ fileLetters g) ⌝ }
+// Where the entry of the next row of a column starts, from where this row's does. Above the diagonal that is one sequence on;
+// from the diagonal on the matrix is symmetric, so that it is a whole column on, of `row` or k sequences.
+pub fn next_start(g: Group, row: usize, column: usize, start: usize) -> usize
+    requires entry { ⌜ (InRange g) × (1 ≤ row) × (row ≤ g .d) × (1 ≤ column) × (column ≤ g .d) ⌝ }
+    requires start { ⌜ start ≡ entryStart g row column ⌝ }
+    ensures { λ r. ⌜ r ≡ entryStart g (row + 1) column ⌝ }
 {
-    if row <= column {
-        return free_start(g, row, column);
+    if row < column {
+        return start + g.l;
     }
-    free_start(g, column, row)
+    start + windows::least(row, g.k) * g.l
 }

@@ -1,6 +1,6 @@
 -- `encoding::encode_exact` meets its contract: both lengths are right, or the refusal is passed on.
 use native.Mathlib.Omega.{arith}
-use mathlib.Core.Path.{refl, sym, _∙_}
+use mathlib.Core.Path.{refl, _∙_}
 use Rattle.group.proofs.InRange.{of-node}
 use Rattle.group.proofs.Refusals.{stopped, fine}
 use Rattle.group.proofs.Sizes.{node-at-most}
