@@ -11,6 +11,10 @@ use Rattle.group.proofs.Refusals.{numbered, if-refused}
 use Rattle.store.specs.Calls.{Called, Recovered, Repaired}
 use Rattle.dulvaspen.specs.Exports.{Tells, Fills, Recovers, Repairs}
 
+-- a value stands in the lent number
+pub value-told : (a : Answer) (v m : ℕ) → a ≡ Answer.Value v → v ≡ ifFine (numberOf a) (valueOf a) m
+value-told a v m e = rw e refl
+
 -- a refusal leaves the lent number as it was
 pub kept : (a : Answer) (r : Refusal) (m : ℕ) → a ≡ Answer.Refused r → m ≡ ifFine (numberOf a) (valueOf a) m
 kept a r m e = sym (if-refused (numberOf a) (valueOf a) m (λ z. numbered r (ap numberOf (sym e) ∙ z)))

@@ -1,7 +1,7 @@
--- `answers::tell` meets its contract: a refusal leaves the lent number as it was.
+-- `answers::tell` meets its contract: a value is told, and a refusal leaves the lent number as it was.
 use mathlib.Core.Path.{sym, ap, _∙_}
 use Rattle.group.specs.Answers.{numberOf}
-use Rattle.dulvaspen.proofs.Told.{kept}
+use Rattle.dulvaspen.proofs.Told.{value-told, kept}
 use borrow.Author.Needs.{needs}
 use Rattle.dulvaspen.proofs.answers.tell.Statement.{statement}
 use Rattle.dulvaspen.proofs.answers.tell.Tie as tie
@@ -16,7 +16,7 @@ refusal-number-requires : tie.Need-refusal-number-requires
 refusal-number-requires c κs = search needs
 
 returns : tie.Need-returns
-returns c = search needs
+returns c = (ap numberOf (sym (c .before .answer .given .1)), value-told _ _ _ (c .before .answer .given .1))
 
 returns-2 : tie.Need-returns-2
 returns-2 c = (c .refusal-number .ensures ∙ ap numberOf (sym (c .before .before .answer2 .given .1)), kept _ _ _ (c .before .before .answer2 .given .1))
