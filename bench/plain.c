@@ -14,7 +14,7 @@ static uint64_t node_letters(group g, uint64_t node) { return g.d * piece_letter
 static uint64_t entry(group g, uint64_t v, uint64_t u) { return (before(g.k, u) + v - 1) * g.l; } /* v <= u, v <= k */
 
 static uint64_t check_group(group g) {
-    if (g.n > 16 || g.k < 1 || g.k > g.d || g.d + 1 > g.n) return 1;
+    if (g.n > 16 || g.k < 2 || g.k > g.d || g.d + 1 > g.n) return 1;
     return g.l < 1 || g.l > 4096 ? 2 : 0;
 }
 static uint64_t check_node(group g, uint64_t node) {

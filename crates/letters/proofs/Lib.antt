@@ -3,4 +3,5 @@ pub mod Cases
 pub mod Sums
 pub mod Places
 pub mod Runs
+pub mod Laying
 pub mod Worth

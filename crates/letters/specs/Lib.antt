@@ -2,4 +2,5 @@
 pub mod Algebra
 pub mod Places
 pub mod Runs
+pub mod Laid
 pub mod Worth

@@ -1,4 +1,6 @@
-// Letters: bytes under XOR, and the addition of one run of letters into another.
+// Letters: bytes under XOR, the addition of one run of letters into another, and runs that are copied or cleared.
+pub mod moving;
+
 ghost use mathlib.Core.Path.{_≡_};
 ghost use Prim.Native.Nat.{_+_, _≤_};
 ghost use lib.ListN.{length, take, drop};

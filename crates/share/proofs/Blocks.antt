@@ -2,6 +2,7 @@
 use mathlib.Core.Path.{_≡_, refl, sym, ap, ap₂, _∙_}
 use mathlib.Core.List.{List}
 use Prim.Native.Nat.{ℕ, suc, _+_, _-_, _*_, _/_, _%_, _≤_, _<_}
+use native.Mathlib.Nat.{zero-add}
 use native.Mathlib.Omega.{arith}
 use lib.ListN.{length, getD, set, List·getD-eq-default}
 use lib.Seq.{ext-getD}
@@ -11,9 +12,10 @@ use Rattle.share.specs.declared.Head.{Head}
 use Rattle.share.specs.Share.{headRecord, endRecord, shareOf}
 use Rattle.share.specs.Reading.{Copied}
 use Rattle.share.specs.Places.{blockKind, blockByte, letterIn, sizeFor}
-use Rattle.share.specs.Writing.{Laid, blocksByte}
+use Rattle.letters.specs.Laid.{Laid}
+use Rattle.share.specs.Writing.{Taken, blocksByte}
 use Rattle.share.proofs.LaidOut.{share-length, in-head, in-blocks, in-end}
-use Rattle.share.proofs.Laying.{nothing-laid, laid-one, laid-on, laid-as, laid-until}
+use Rattle.letters.proofs.Laying.{nothing-laid, laid-one, laid-on, laid-as, laid-until}
 
 -- the byte of the blocks at an offset of one
 pub byte-of-block : (letters : List ℕ) (r j p : ℕ) → j < 65 → p ≡ 11 + r * 65 + j → blocksByte letters p ≡ blockByte letters r j
@@ -126,3 +128,10 @@ share-laid h letters xs front full last back long head some rest end =
         (laid-as front last 11 (11 + blocks (length letters) * 65) _ byte in-block
         (laid-on front full last 11 (11 + length letters / 64 * 65) _ (blocksByte letters) (omega arith) some rest)))
         (laid-as last back _ _ _ byte (λ p lo hi. in-back p lo) end)
+
+-- what is laid of bytes that were taken
+pub laid-taken :
+    (xs block before after : List ℕ) (start at count : ℕ) → Taken xs start count block
+    → Laid before after at (at + count) (λ p. getD block (0 + (p - at)) 0) → Laid before after at (at + count) (λ p. getD xs (start + (p - at)) 0)
+laid-taken xs block before after start at count t w =
+    laid-as before after at (at + count) _ _ (λ p lo hi. ap (λ i. getD block i 0) (zero-add (p - at)) ∙ t .taken (p - at) (omega arith)) w

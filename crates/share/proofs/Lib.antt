@@ -1,5 +1,4 @@
 -- The laws of shares.
-pub mod Laying
 pub mod LaidOut
 pub mod Blocks
 pub mod HeadOffsets

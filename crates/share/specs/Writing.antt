@@ -6,12 +6,6 @@ use lib.ListN.{length, getD}
 use Rattle.share.specs.Share.{headSize, blockSize}
 use Rattle.share.specs.Places.{blockByte}
 
--- from index a up to b stand these bytes, and before a all is as it was; nothing is said of what comes after b, which is still to be written
-pub record Laid (xs ys : List ℕ) (a b : ℕ) (byte : ℕ → ℕ) : Type 0 where
-  pub same-length : length ys ≡ length xs
-  pub before : (p : ℕ) → p < a → getD ys p 0 ≡ getD xs p 0
-  pub laid : (p : ℕ) → a ≤ p → p < b → getD ys p 0 ≡ byte p
-
 -- the byte of the blocks at index p of a share
 abbrev pub blocksByte : List ℕ → ℕ → ℕ
 blocksByte letters p = blockByte letters ((p - headSize) / blockSize) ((p - headSize) % blockSize)

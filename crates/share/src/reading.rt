@@ -5,6 +5,7 @@ use crate::heads;
 use crate::records;
 use crate::runs;
 use group::Refusal;
+use letters::moving;
 ghost use mathlib.Core.Path.{_≡_};
 ghost use Prim.Native.Nat.{_≤_};
 ghost use lib.ListN.{length};
@@ -45,7 +46,7 @@ fn copy_letters(share: &[u8], packets: &mut [u8])
     }
     let done = full * records::BLOCK_LETTERS;
     let left = packets.len() - done;
-    runs::copy(
+    moving::copy(
         share,
         records::HEAD_SIZE + 1 + full * records::BLOCK_SIZE,
         packets,

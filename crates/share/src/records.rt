@@ -24,16 +24,6 @@ pub const END_SIZE: usize = 5;
 
 pub const BLOCK_LETTERS: usize = 64;
 
-// The lesser of two numbers.
-pub fn lesser(a: usize, b: usize) -> usize
-    ensures { λ r. ⌜ r ≡ min a b ⌝ }
-{
-    if a < b {
-        return a;
-    }
-    b
-}
-
 // The bytes of a record; what is past the end counts with it, since nothing stands there.
 pub fn record_size(nth: usize) -> usize
     ensures { λ r. ⌜ r ≡ recordSize nth ⌝ }

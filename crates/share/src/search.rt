@@ -2,6 +2,7 @@
 use crate::Head;
 use crate::records;
 use crate::standing;
+use group::lengths;
 ghost use mathlib.Core.Path.{_≡_};
 ghost use Prim.Native.Nat.{_≤_, _<_};
 ghost use lib.ListN.{length};
@@ -22,7 +23,7 @@ fn letters_after(letters: usize, nth: usize, offset: usize) -> usize
     if records::blocks_of(letters) < nth {
         return 0;
     }
-    records::lesser(
+    lengths::lesser(
         letters - (nth - 1) * records::BLOCK_LETTERS,
         records::BLOCK_LETTERS,
     )
@@ -57,7 +58,7 @@ fn next_tested(
     ensures { λ r. ⌜ Skips (now (share .entry)) letters nth start at end r ⌝ }
 {
     let count = letters_after(letters, nth, at - start);
-    let past = records::lesser(at + 1 + count, end);
+    let past = lengths::lesser(at + 1 + count, end);
     if count == 0 {
         return past;
     }
@@ -72,7 +73,7 @@ fn past_full_blocks(share: &[u8], letters: usize, r: usize) -> usize
         return r;
     }
     let whole = (share.len() - records::HEAD_SIZE) / records::BLOCK_SIZE;
-    let most = records::lesser(whole, letters / records::BLOCK_LETTERS);
+    let most = lengths::lesser(whole, letters / records::BLOCK_LETTERS);
     let mut e = r;
     while e < most {
         if share[records::HEAD_SIZE + e * records::BLOCK_SIZE] != records::KIND_FULL {
@@ -93,7 +94,7 @@ pub fn first_wrong(share: &[u8], head: Head, letters: usize) -> usize
     let mut nth = 0;
     'records: while at < share.len() {
         let start = at;
-        let end = records::lesser(start + records::record_size(nth), share.len());
+        let end = lengths::lesser(start + records::record_size(nth), share.len());
         while at < end {
             if !standing::stands_in(head, letters, nth, at - start, share[at]) {
                 break 'records;

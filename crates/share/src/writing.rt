@@ -6,15 +6,17 @@ use group::Answer;
 use group::Check;
 use group::checks;
 use group::lengths;
+use letters::moving;
 ghost use mathlib.Core.Path.{_≡_};
 ghost use Prim.Native.Nat.{_+_, _-_, _*_, _/_, _≤_};
 ghost use lib.ListN.{length, getD};
+ghost use Rattle.letters.specs.Laid.{Laid};
 ghost use Rattle.group.specs.Ranges.{NodeOf};
 ghost use Rattle.group.specs.Lengths.{blocks};
 ghost use Rattle.share.specs.Calls.{Writes, fitRefusal};
 ghost use Rattle.share.specs.Places.{sizeFor, letterBound};
 ghost use Rattle.share.specs.Share.{headSize, blockSize, blockLetters, headRecord, endRecord, shareOf};
-ghost use Rattle.share.specs.Writing.{Laid, blocksByte};
+ghost use Rattle.share.specs.Writing.{blocksByte};
 
 // The byte at an offset of the head.
 fn head_byte(head: Head, offset: usize) -> u8
@@ -78,8 +80,8 @@ fn put_last_block(packets: &[u8], share: &mut [u8])
     }
     let at = records::HEAD_SIZE + full * records::BLOCK_SIZE;
     share[at] = records::KIND_LAST;
-    runs::copy(packets, full * records::BLOCK_LETTERS, share, at + 1, left);
-    runs::clear(share, at + 1 + left, at + records::BLOCK_SIZE);
+    moving::copy(packets, full * records::BLOCK_LETTERS, share, at + 1, left);
+    moving::clear(share, at + 1 + left, at + records::BLOCK_SIZE);
 }
 
 // The end, at the back.

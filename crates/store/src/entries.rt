@@ -1,5 +1,4 @@
 // Where the matrix's entries stand in a file, and in the collector's buffer, which is laid out the same.
-use crate::windows;
 use group::Group;
 ghost use mathlib.Core.Path.{_≡_};
 ghost use Prim.Native.Nat.{_+_, _-_, _*_, _≤_};
@@ -37,5 +36,5 @@ pub fn next_start(g: Group, row: usize, column: usize, start: usize) -> usize
     if row < column {
         return start + g.l;
     }
-    start + windows::least(row, g.k) * g.l
+    start + group::lengths::lesser(row, g.k) * g.l
 }

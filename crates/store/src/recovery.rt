@@ -1,7 +1,6 @@
 // Recovery: the file from the pieces of k nodes.
 use crate::entries;
 use crate::rows;
-use crate::windows;
 use group::Answer;
 use group::Check;
 use group::Group;
@@ -70,7 +69,7 @@ fn recover_column(g: Group, ids: &[usize], rows: &[usize], u: usize, buffer: &mu
     requires { ⌜ (Collected g (now ids) (now buffer)) × (RowsOf (now ids) (now rows)) × (1 ≤ u) × (u ≤ g .d) ⌝ }
     ensures { λ r. ⌜ Column g (now (ids .entry)) u (now (buffer .entry)) (now (buffer .exit)) r ⌝ }
 {
-    let s = windows::least(u, g.k);
+    let s = group::lengths::lesser(u, g.k);
     let start = entries::sequences_before(g.k, u) * g.l;
     let end = start + s * g.l;
     let solved = solving::solve(&mut buffer[start..end], s, g.l, rows);
@@ -83,7 +82,7 @@ fn push_column(g: Group, ids: &[usize], rows: &[usize], u: usize, buffer: &mut [
     ensures { λ r. ⌜ Pushed g (now (ids .entry)) u (min (u - 1) (g .k)) (now (buffer .entry)) (now (buffer .exit)) r ⌝ }
     ensures bound { λ r. ⌜ r ≤ 1048576 ⌝ }
 {
-    let columns = windows::least(u - 1, g.k);
+    let columns = group::lengths::lesser(u - 1, g.k);
     let mut count: usize = 0;
     let mut c = 0;
     while c < columns {

@@ -1,27 +1,12 @@
-// Adding a run that is moved right and seen through a window: the one machine behind packets and helpers' pieces.
-ghost use mathlib.Core.Path.{_≡_};
-ghost use Prim.Native.Nat.{min};
+// Adding a run that is moved right and seen through a window, as a helper's piece is made.
+use group::lengths;
 ghost use Rattle.store.specs.Steps.{Cleared, Seen};
 
 // Sets every letter to zero.
 pub fn clear(letters: &mut [u8])
     ensures { λ r. ⌜ Cleared (now (letters .entry)) (now (letters .exit)) ⌝ }
 {
-    let mut i = 0;
-    while i < letters.len() {
-        letters[i] = 0;
-        i += 1;
-    }
-}
-
-// The smaller of two numbers.
-pub fn least(a: usize, b: usize) -> usize
-    ensures { λ r. ⌜ r ≡ min a b ⌝ }
-{
-    if a <= b {
-        return a;
-    }
-    b
+    letters::moving::clear(letters, 0, letters.len());
 }
 
 // Adds to each letter of `into` the letter of `run` that stands `behind` places further on. Letters pushed outside are dropped.
@@ -31,7 +16,7 @@ fn add_from(into: &mut [u8], run: &[u8], behind: usize)
     if run.len() <= behind {
         return;
     }
-    let count = least(into.len(), run.len() - behind);
+    let count = lengths::lesser(into.len(), run.len() - behind);
     let end = behind + count;
     letters::add_run(into, 0, &run[behind..end]);
 }
@@ -43,7 +28,7 @@ fn add_at(into: &mut [u8], run: &[u8], ahead: usize)
     if into.len() <= ahead {
         return;
     }
-    let count = least(into.len() - ahead, run.len());
+    let count = lengths::lesser(into.len() - ahead, run.len());
     letters::add_run(into, ahead, &run[0..count]);
 }
 

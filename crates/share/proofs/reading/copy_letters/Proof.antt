@@ -4,8 +4,8 @@ use Prim.Native.Nat.{_-_, _*_, _/_, _≤_}
 use native.Mathlib.Omega.{arith}
 use lib.ListN.{length}
 use Rattle.share.specs.Places.{letterIn}
-use Rattle.share.specs.Writing.{Laid}
-use Rattle.share.proofs.Laying.{nothing-laid, laid-on, laid-until}
+use Rattle.letters.specs.Laid.{Laid}
+use Rattle.letters.proofs.Laying.{nothing-laid, laid-on, laid-until}
 use Rattle.share.proofs.Blocks.{letters-of-block, all-copied}
 use Rattle.share.proofs.reading.copy_letters.Statement.{statement}
 use Rattle.share.proofs.reading.copy_letters.Tie as tie

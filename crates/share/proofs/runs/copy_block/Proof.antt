@@ -1,5 +1,5 @@
 -- `runs::copy_block` meets its contract: what is laid is what was taken.
-use Rattle.share.proofs.Laying.{laid-taken}
+use Rattle.share.proofs.Blocks.{laid-taken}
 use borrow.Author.Needs.{needs}
 use Rattle.share.proofs.runs.copy_block.Statement.{statement}
 use Rattle.share.proofs.runs.copy_block.Tie as tie

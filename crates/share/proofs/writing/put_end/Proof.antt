@@ -6,8 +6,8 @@ use lib.ListN.{getD}
 use borrow.Author.Needs.{needs}
 use Rattle.group.specs.Lengths.{blocks}
 use Rattle.share.specs.Share.{endRecord}
-use Rattle.share.specs.Writing.{Laid}
-use Rattle.share.proofs.Laying.{nothing-laid, laid-one, laid-until}
+use Rattle.letters.specs.Laid.{Laid}
+use Rattle.letters.proofs.Laying.{nothing-laid, laid-one, laid-until}
 use Rattle.share.proofs.writing.put_end.Statement.{statement}
 use Rattle.share.proofs.writing.put_end.Tie as tie
 

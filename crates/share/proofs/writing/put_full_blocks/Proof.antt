@@ -4,8 +4,9 @@ use Prim.Native.Nat.{_+_, _-_, _*_, _/_, _≤_}
 use native.Mathlib.Omega.{arith}
 use lib.ListN.{length, length-set}
 use borrow.Author.Tests.{le-leb}
-use Rattle.share.specs.Writing.{Laid, blocksByte}
-use Rattle.share.proofs.Laying.{nothing-laid, laid-on, laid-until}
+use Rattle.letters.specs.Laid.{Laid}
+use Rattle.share.specs.Writing.{blocksByte}
+use Rattle.letters.proofs.Laying.{nothing-laid, laid-on, laid-until}
 use Rattle.share.proofs.Blocks.{block-laid}
 use Rattle.share.proofs.writing.put_full_blocks.Statement.{statement}
 use Rattle.share.proofs.writing.put_full_blocks.Tie as tie

@@ -5,8 +5,8 @@ use native.Mathlib.Omega.{arith}
 use lib.ListN.{getD}
 use borrow.Author.Needs.{needs}
 use Rattle.share.specs.Share.{headRecord}
-use Rattle.share.specs.Writing.{Laid}
-use Rattle.share.proofs.Laying.{nothing-laid, laid-one, laid-until}
+use Rattle.letters.specs.Laid.{Laid}
+use Rattle.letters.proofs.Laying.{nothing-laid, laid-one, laid-until}
 use Rattle.share.proofs.writing.put_head.Statement.{statement}
 use Rattle.share.proofs.writing.put_head.Tie as tie
 

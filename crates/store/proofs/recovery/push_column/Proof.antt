@@ -14,14 +14,14 @@ Inv-loop g ids rows u buffer₀ columns count₀ c₀ buffer count c = (c ≤ co
 abbrev μ-loop : tie.MeasureT-loop
 μ-loop g ids rows u buffer₀ columns count₀ c₀ buffer count c = columns - c
 
-sub-least : tie.Need-sub-least Inv-loop μ-loop
-sub-least c = search needs
+sub-lesser : tie.Need-sub-lesser Inv-loop μ-loop
+sub-lesser c = search needs
 
-least-requires : tie.Need-least-requires Inv-loop μ-loop
-least-requires c κs = search needs
+lesser-requires : tie.Need-lesser-requires Inv-loop μ-loop
+lesser-requires c κs = search needs
 
 loop-holds : tie.Need-loop-holds Inv-loop μ-loop
-loop-holds c = (omega arith, c .least .ensures, push-none _ _ _ _, omega arith)
+loop-holds c = (omega arith, c .lesser .ensures, push-none _ _ _ _, omega arith)
 
 add-c : tie.Need-add-c Inv-loop μ-loop
 add-c c = search needs
@@ -60,8 +60,8 @@ push-column-spec =
     (tie.spec
     Inv-loop
     μ-loop
-    sub-least
-    least-requires
+    sub-lesser
+    lesser-requires
     loop-holds
     add-c
     push-into-requires

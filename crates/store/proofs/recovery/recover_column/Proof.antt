@@ -11,8 +11,8 @@ use borrow.Author.Needs.{needs}
 use Rattle.store.proofs.recovery.recover_column.Statement.{statement}
 use Rattle.store.proofs.recovery.recover_column.Tie as tie
 
-least-requires : tie.Need-least-requires
-least-requires c κs = search needs
+lesser-requires : tie.Need-lesser-requires
+lesser-requires c κs = search needs
 
 sequences-before-requires : tie.Need-sequences-before-requires
 sequences-before-requires c κs = search needs
@@ -23,11 +23,11 @@ mul-start c = let s = c .before .before .before .before .before .before in
 
 mul-end : tie.Need-mul-end
 mul-end c = let s = c .before .before .before .before .before .before .before in
-    omega (arith, mul-le-mul {n₁ = c .before .before .sequences-before .result} {m₁ = s .args .g .l} {n₂ = 360} {m₂ = 4096} (omega arith) (omega arith), mul-le-mul {n₁ = c .before .before .before .least .result} {m₁ = s .args .g .l} {n₂ = 16} {m₂ = 4096} (omega (arith, c .before .before .before .least .ensures)) (omega arith))
+    omega (arith, mul-le-mul {n₁ = c .before .before .sequences-before .result} {m₁ = s .args .g .l} {n₂ = 360} {m₂ = 4096} (omega arith) (omega arith), mul-le-mul {n₁ = c .before .before .before .lesser .result} {m₁ = s .args .g .l} {n₂ = 16} {m₂ = 4096} (omega (arith, c .before .before .before .lesser .ensures)) (omega arith))
 
 add-end : tie.Need-add-end
 add-end c = let s = c .before .before .before .before .before .before .before in
-    omega (arith, mul-le-mul {n₁ = c .before .before .sequences-before .result} {m₁ = s .args .g .l} {n₂ = 360} {m₂ = 4096} (omega arith) (omega arith), mul-le-mul {n₁ = c .before .before .before .least .result} {m₁ = s .args .g .l} {n₂ = 16} {m₂ = 4096} (omega (arith, c .before .before .before .least .ensures)) (omega arith))
+    omega (arith, mul-le-mul {n₁ = c .before .before .sequences-before .result} {m₁ = s .args .g .l} {n₂ = 360} {m₂ = 4096} (omega arith) (omega arith), mul-le-mul {n₁ = c .before .before .before .lesser .result} {m₁ = s .args .g .l} {n₂ = 16} {m₂ = 4096} (omega (arith, c .before .before .before .lesser .ensures)) (omega arith))
 
 sub-solve : tie.Need-sub-solve
 sub-solve c = search needs
@@ -37,13 +37,13 @@ part-solve-start c = search needs
 
 part-solve-end : tie.Need-part-solve-end
 part-solve-end c = let s = c .before .before .before .before .before .before .before in
-    omega (arith, column-fits (s .args .g) (s .args .ids .now) (s .args .buffer .now) (s .pre .0) (s .args .u) (omega arith) (omega arith), (ap (λ m. m * s .args .g .l) (c .before .before .sequences-before .ensures .0)), (ap (λ m. c .before .before .sequences-before .result * s .args .g .l + m * s .args .g .l) (c .before .before .before .least .ensures)))
+    omega (arith, column-fits (s .args .g) (s .args .ids .now) (s .args .buffer .now) (s .pre .0) (s .args .u) (omega arith) (omega arith), (ap (λ m. m * s .args .g .l) (c .before .before .sequences-before .ensures .0)), (ap (λ m. c .before .before .sequences-before .result * s .args .g .l + m * s .args .g .l) (c .before .before .before .lesser .ensures)))
 
 solve-requires : tie.Need-solve-requires
 solve-requires c κs = let s = c .before .before .before .before .before .before .before .before in (
-  subst (λ m. Solvable m (s .args .g .l) (s .args .rows .now)) (sym (c .before .before .before .before .least .ensures))
+  subst (λ m. Solvable m (s .args .g .l) (s .args .rows .now)) (sym (c .before .before .before .before .lesser .ensures))
       (solvable _ _ (s .pre .1) _ _ (s .pre .0 .chosen) (omega arith) _ (omega arith) (omega arith) (s .args .g .l) (omega arith) (omega arith)),
-  lent-length (s .args .g) (s .args .ids .now) (s .args .buffer .now) (s .pre .0) (s .args .u) (omega arith) (omega arith) _ _ (ap (λ m. m * s .args .g .l) (c .before .before .before .sequences-before .ensures .0)) (ap (λ m. c .before .before .before .sequences-before .result * s .args .g .l + m * s .args .g .l) (c .before .before .before .before .least .ensures)) ∙ ap (λ m. m * s .args .g .l) (sym (c .before .before .before .before .least .ensures)),
+  lent-length (s .args .g) (s .args .ids .now) (s .args .buffer .now) (s .pre .0) (s .args .u) (omega arith) (omega arith) _ _ (ap (λ m. m * s .args .g .l) (c .before .before .before .sequences-before .ensures .0)) (ap (λ m. c .before .before .before .sequences-before .result * s .args .g .l + m * s .args .g .l) (c .before .before .before .before .lesser .ensures)) ∙ ap (λ m. m * s .args .g .l) (sym (c .before .before .before .before .lesser .ensures)),
 )
 
 push-column-requires : tie.Need-push-column-requires
@@ -53,7 +53,7 @@ push-column-requires c κs =
       record {
         chosen = s .pre .0 .chosen;
         long =
-            middle-length (s .args .g) (s .args .ids .now) (s .args .buffer .now) (s .pre .0) (s .args .u) (omega arith) (omega arith) _ _ (ap (λ m. m * s .args .g .l) (c .before .before .before .before .before .before .before .sequences-before .ensures .0)) (ap (λ m. c .before .before .before .before .before .before .before .sequences-before .result * s .args .g .l + m * s .args .g .l) (c .before .before .before .before .before .before .before .before .least .ensures)) (v .last .0) (v .ensures .same-length ∙ lent-size (s .args .g) (s .args .ids .now) (s .args .buffer .now) (s .pre .0) (s .args .u) (omega arith) (omega arith) _ _ (ap (λ m. m * s .args .g .l) (c .before .before .before .before .before .before .before .sequences-before .ensures .0)) (ap (λ m. c .before .before .before .before .before .before .before .sequences-before .result * s .args .g .l + m * s .args .g .l) (c .before .before .before .before .before .before .before .before .least .ensures))) ∙ s .pre .0 .long;
+            middle-length (s .args .g) (s .args .ids .now) (s .args .buffer .now) (s .pre .0) (s .args .u) (omega arith) (omega arith) _ _ (ap (λ m. m * s .args .g .l) (c .before .before .before .before .before .before .before .sequences-before .ensures .0)) (ap (λ m. c .before .before .before .before .before .before .before .sequences-before .result * s .args .g .l + m * s .args .g .l) (c .before .before .before .before .before .before .before .before .lesser .ensures)) (v .last .0) (v .ensures .same-length ∙ lent-size (s .args .g) (s .args .ids .now) (s .args .buffer .now) (s .pre .0) (s .args .u) (omega arith) (omega arith) _ _ (ap (λ m. m * s .args .g .l) (c .before .before .before .before .before .before .before .sequences-before .ensures .0)) (ap (λ m. c .before .before .before .before .before .before .before .sequences-before .result * s .args .g .l + m * s .args .g .l) (c .before .before .before .before .before .before .before .before .lesser .ensures))) ∙ s .pre .0 .long;
       },
       s .pre .1,
       omega arith,
@@ -66,9 +66,9 @@ add-result c = let s = c .before .before .before .before .before .before .before
     omega (
       arith,
       v .ensures .counted,
-      additions-bound (c .before .before .before .before .before .before .before .before .before .before .before .least .result) (s .args .g .l) (shiftIn (s .args .rows .now)) (sequence 0 (v .last .0) (s .args .g .l)),
+      additions-bound (c .before .before .before .before .before .before .before .before .before .before .before .lesser .result) (s .args .g .l) (shiftIn (s .args .rows .now)) (sequence 0 (v .last .0) (s .args .g .l)),
       c .before .before .push-column .ensures .1,
-      mul-le-mul {n₁ = c .before .before .before .before .before .before .before .before .before .before .before .least .result} {m₁ = s .args .g .l * c .before .before .before .before .before .before .before .before .before .before .before .least .result} {n₂ = 16} {m₂ = 65536} (omega (arith, c .before .before .before .before .before .before .before .before .before .before .before .least .ensures)) (mul-le-mul {n₁ = s .args .g .l} {m₁ = c .before .before .before .before .before .before .before .before .before .before .before .least .result} {n₂ = 4096} {m₂ = 16} (omega arith) (omega (arith, c .before .before .before .before .before .before .before .before .before .before .before .least .ensures))),
+      mul-le-mul {n₁ = c .before .before .before .before .before .before .before .before .before .before .before .lesser .result} {m₁ = s .args .g .l * c .before .before .before .before .before .before .before .before .before .before .before .lesser .result} {n₂ = 16} {m₂ = 65536} (omega (arith, c .before .before .before .before .before .before .before .before .before .before .before .lesser .ensures)) (mul-le-mul {n₁ = s .args .g .l} {m₁ = c .before .before .before .before .before .before .before .before .before .before .before .lesser .result} {n₂ = 4096} {m₂ = 16} (omega arith) (omega (arith, c .before .before .before .before .before .before .before .before .before .before .before .lesser .ensures))),
     )
 
 same-length : tie.Need-same-length
@@ -77,15 +77,15 @@ same-length c = search needs
 returns : tie.Need-returns
 returns c = let s = c .before .before .before .before .before .before .before .before .before .before .before .before .before .before .before in
     let v = c .before .before .before .before .before .before .solve in
-    column-done (s .args .g) (s .args .ids .now) (s .args .buffer .now) (s .pre .0) (s .args .u) (omega arith) (omega arith) _ _ (ap (λ m. m * s .args .g .l) (c .before .before .before .before .before .before .before .before .before .before .sequences-before .ensures .0)) (ap (λ m. c .before .before .before .before .before .before .before .before .before .before .sequences-before .result * s .args .g .l + m * s .args .g .l) (c .before .before .before .before .before .before .before .before .before .before .before .least .ensures)) (v .last .0) (v .ensures .same-length ∙ lent-size (s .args .g) (s .args .ids .now) (s .args .buffer .now) (s .pre .0) (s .args .u) (omega arith) (omega arith) _ _ (ap (λ m. m * s .args .g .l) (c .before .before .before .before .before .before .before .before .before .before .sequences-before .ensures .0)) (ap (λ m. c .before .before .before .before .before .before .before .before .before .before .sequences-before .result * s .args .g .l + m * s .args .g .l) (c .before .before .before .before .before .before .before .before .before .before .before .least .ensures))) (s .args .rows .now) _ (v .result) _ (s .pre .1)
-    (solved-as _ _ _ _ _ _ _ (c .before .before .before .before .before .before .before .before .before .before .before .least .ensures) (v .ensures))
+    column-done (s .args .g) (s .args .ids .now) (s .args .buffer .now) (s .pre .0) (s .args .u) (omega arith) (omega arith) _ _ (ap (λ m. m * s .args .g .l) (c .before .before .before .before .before .before .before .before .before .before .sequences-before .ensures .0)) (ap (λ m. c .before .before .before .before .before .before .before .before .before .before .sequences-before .result * s .args .g .l + m * s .args .g .l) (c .before .before .before .before .before .before .before .before .before .before .before .lesser .ensures)) (v .last .0) (v .ensures .same-length ∙ lent-size (s .args .g) (s .args .ids .now) (s .args .buffer .now) (s .pre .0) (s .args .u) (omega arith) (omega arith) _ _ (ap (λ m. m * s .args .g .l) (c .before .before .before .before .before .before .before .before .before .before .sequences-before .ensures .0)) (ap (λ m. c .before .before .before .before .before .before .before .before .before .before .sequences-before .result * s .args .g .l + m * s .args .g .l) (c .before .before .before .before .before .before .before .before .before .before .before .lesser .ensures))) (s .args .rows .now) _ (v .result) _ (s .pre .1)
+    (solved-as _ _ _ _ _ _ _ (c .before .before .before .before .before .before .before .before .before .before .before .lesser .ensures) (v .ensures))
     (c .before .before .push-column .ensures .0) (c .before .before .push-column .ensures .1)
 
 pub recover-column-spec : {M : Type 1} → statement M
 recover-column-spec =
     tie.close
     (tie.spec
-    least-requires
+    lesser-requires
     sequences-before-requires
     mul-start
     mul-end

@@ -9,11 +9,11 @@ use Rattle.store.proofs.windows.add_at.Tie as tie
 returns : tie.Need-returns
 returns c = seen-nothing _ 0 _ _ (λ q h. inl (omega arith))
 
-sub-least : tie.Need-sub-least
-sub-least c = search needs
+sub-lesser : tie.Need-sub-lesser
+sub-lesser c = search needs
 
-least-requires : tie.Need-least-requires
-least-requires c κs = search needs
+lesser-requires : tie.Need-lesser-requires
+lesser-requires c κs = search needs
 
 sub-add-run : tie.Need-sub-add-run
 sub-add-run c = search needs
@@ -32,7 +32,7 @@ same-length c = search needs
 
 returns-2 : tie.Need-returns-2
 returns-2 c = let s = c .before .before .before .before .before .before .before .before .before in
-    seen-at (s .args .run .now) (s .args .into .now) (c .before .before .add-run .last .0) (s .args .ahead) _ (omega arith) (c .before .before .before .before .before .least .ensures)
+    seen-at (s .args .run .now) (s .args .into .now) (c .before .before .add-run .last .0) (s .args .ahead) _ (omega arith) (c .before .before .before .before .before .lesser .ensures)
     (c .before .before .add-run .ensures .0)
 
 pub add-at-spec : {M : Type 1} → statement M
@@ -40,8 +40,8 @@ add-at-spec =
     tie.close
     (tie.spec
     returns
-    sub-least
-    least-requires
+    sub-lesser
+    lesser-requires
     sub-add-run
     part-add-run-start
     part-add-run-end

@@ -10,11 +10,11 @@ use Rattle.store.proofs.windows.add_from.Tie as tie
 returns : tie.Need-returns
 returns c = seen-nothing _ _ 0 _ (λ q h. inr (omega arith))
 
-sub-least : tie.Need-sub-least
-sub-least c = search needs
+sub-lesser : tie.Need-sub-lesser
+sub-lesser c = search needs
 
-least-requires : tie.Need-least-requires
-least-requires c κs = search needs
+lesser-requires : tie.Need-lesser-requires
+lesser-requires c κs = search needs
 
 add-end : tie.Need-add-end
 add-end c = search needs
@@ -36,7 +36,7 @@ same-length c = search needs
 
 returns-2 : tie.Need-returns-2
 returns-2 c = let s = c .before .before .before .before .before .before .before .before .before in
-    seen-from (s .args .run .now) (s .args .into .now) (c .before .before .add-run .last .0) (s .args .behind) _ _ (omega arith) (c .before .before .before .before .before .least .ensures) refl
+    seen-from (s .args .run .now) (s .args .into .now) (c .before .before .add-run .last .0) (s .args .behind) _ _ (omega arith) (c .before .before .before .before .before .lesser .ensures) refl
     (c .before .before .add-run .ensures .0)
 
 pub add-from-spec : {M : Type 1} → statement M
@@ -44,8 +44,8 @@ add-from-spec =
     tie.close
     (tie.spec
     returns
-    sub-least
-    least-requires
+    sub-lesser
+    lesser-requires
     add-end
     sub-add-run
     part-add-run-start

@@ -1,62 +1,34 @@
--- `windows::clear` meets its contract: after i turns the first i letters are zero, and past the end there are none.
-use mathlib.Core.Path.{_≡_, refl, _∙_}
+-- `windows::clear` meets its contract: every letter is cleared, and past the end there are none.
+use mathlib.Core.List.{List}
 use mathlib.Core.Logic.{⊎-elim}
-use Prim.Native.Nat.{ℕ, _≤_, _<_, _-_}
-use lib.ListN.{length, getD, length-set, List·getD-eq-default}
-use lib.Seq.{getD-set-same, getD-set-other}
-use borrow.Author.Count.{below-more}
-use Rattle.letters.proofs.Cases.{le-or-lt}
+use Prim.Native.Nat.{ℕ}
 use native.Mathlib.Omega.{arith}
+use lib.ListN.{length, List·getD-eq-default}
+use borrow.Author.Needs.{needs}
+use Rattle.letters.specs.Laid.{Laid}
+use Rattle.letters.proofs.Cases.{le-or-lt}
+use Rattle.store.specs.Steps.{Cleared}
 use Rattle.store.proofs.windows.clear.Statement.{statement}
 use Rattle.store.proofs.windows.clear.Tie as tie
 
-abbrev Inv-loop : tie.InvT-loop
-Inv-loop letters₀ i₀ letters i = (i ≤ length letters) × (length letters ≡ length letters₀) × ((q : ℕ) → q < i → getD letters q 0 ≡ 0)
-
-abbrev μ-loop : tie.MeasureT-loop
-μ-loop letters₀ i₀ letters i = length letters₀ - i
-
-loop-holds : tie.Need-loop-holds Inv-loop μ-loop
-loop-holds c = (omega arith, refl, λ q h. absurd (omega arith))
-
-slice-write-letters : tie.Need-slice-write-letters Inv-loop μ-loop
-slice-write-letters c = omega arith
-
-add-i : tie.Need-add-i Inv-loop μ-loop
-add-i c = omega arith
-
-loop-less : tie.Need-loop-less Inv-loop μ-loop
-loop-less c = omega arith
-
-loop-again : tie.Need-loop-again Inv-loop μ-loop
-loop-again c = let s = c .before in (
-  simp length-set (omega arith),
-  simp length-set (s .loop .inv .1),
-  below-more _ _
-      (λ q h. getD-set-other (s .loop .letters) (s .loop .i) q 0 0 (λ e. omega arith) ∙ s .loop .inv .2 q h)
-      (getD-set-same (s .loop .letters) (s .loop .i) 0 0 (omega arith)),
-)
-
-same-length : tie.Need-same-length Inv-loop μ-loop
-same-length c = c .before .loop .inv .1
-
-returns : tie.Need-returns Inv-loop μ-loop
-returns c = let s = c .before in
+all-cleared : (xs ys : List ℕ) → Laid xs ys 0 (length xs) (λ p. 0) → Cleared xs ys
+all-cleared xs ys w =
     record {
-      same-length = s .loop .inv .1;
-      zeros = record { zero = λ q. ⊎-elim (λ past. List·getD-eq-default (s .loop .letters) 0 past) (λ h. s .loop .inv .2 q (omega arith)) (le-or-lt (length (s .loop .letters)) q) };
+      same-length = w .same-length;
+      zeros =
+          record {
+            zero = λ q. ⊎-elim (λ past. List·getD-eq-default ys 0 past) (λ h. w .laid q (omega arith) (omega (arith, w .same-length))) (le-or-lt (length ys) q);
+          };
     }
 
+clear-requires : tie.Need-clear-requires
+clear-requires c κs = search needs
+
+same-length : tie.Need-same-length
+same-length c = search needs
+
+returns : tie.Need-returns
+returns c = all-cleared _ _ (c .before .before .clear .ensures)
+
 pub clear-spec : {M : Type 1} → statement M
-clear-spec =
-    tie.close
-    (tie.spec
-    Inv-loop
-    μ-loop
-    loop-holds
-    slice-write-letters
-    add-i
-    loop-less
-    loop-again
-    same-length
-    returns)
+clear-spec = tie.close (tie.spec clear-requires same-length returns)

@@ -1,19 +1,18 @@
--- Laws of what is laid: byte after byte, and part after part.
+-- Laws of what is laid: letter after letter, and part after part.
 use mathlib.Core.Path.{_≡_, refl, ap, _∙_}
 use mathlib.Core.List.{List}
 use mathlib.Core.Logic.{⊎-elim}
 use Prim.Native.Nat.{ℕ, _+_, _-_, _≤_, _<_}
-use native.Mathlib.Nat.{zero-add}
 use native.Mathlib.Omega.{arith}
 use lib.ListN.{length, getD, set, length-set}
 use lib.Seq.{getD-set-same, getD-set-other}
 use Rattle.letters.proofs.Cases.{le-or-lt}
-use Rattle.share.specs.Writing.{Laid, Taken}
+use Rattle.letters.specs.Laid.{Laid}
 
 pub nothing-laid : (xs : List ℕ) (a b : ℕ) (byte : ℕ → ℕ) → b ≤ a → Laid xs xs a b byte
 nothing-laid xs a b byte order = record { same-length = refl; before = λ p h. refl; laid = λ p lo hi. absurd (omega arith) }
 
--- one byte more
+-- one letter more
 pub laid-one :
     (xs ys : List ℕ) (a b c x : ℕ) (byte : ℕ → ℕ) → a ≤ b → c ≡ b + 1 → c ≤ length xs → Laid xs ys a b byte → x ≡ byte b
     → Laid xs (set ys b x) a c byte
@@ -35,7 +34,7 @@ laid-one xs ys a b c x byte order next fits w e =
 pub laid-until : (xs ys : List ℕ) (a b c : ℕ) (byte : ℕ → ℕ) → c ≡ b → Laid xs ys a b byte → Laid xs ys a c byte
 laid-until xs ys a b c byte e w = rw e w
 
--- one part more, and the same bytes by another name
+-- one part more, and the same letters by another name
 pub laid-on :
     (xs ys zs : List ℕ) (a b c : ℕ) (byte : ℕ → ℕ) → a ≤ b → Laid xs ys a b byte → Laid ys zs b c byte → Laid xs zs a c byte
 laid-on xs ys zs a b c byte order v w =
@@ -49,10 +48,3 @@ pub laid-as :
     (xs ys : List ℕ) (a b : ℕ) (byte other : ℕ → ℕ) → ((p : ℕ) → a ≤ p → p < b → byte p ≡ other p) → Laid xs ys a b byte → Laid xs ys a b other
 laid-as xs ys a b byte other same w =
     record { same-length = w .same-length; before = w .before; laid = λ p lo hi. w .laid p lo hi ∙ same p lo hi }
-
--- what is laid of bytes that were taken
-pub laid-taken :
-    (xs block before after : List ℕ) (start at count : ℕ) → Taken xs start count block
-    → Laid before after at (at + count) (λ p. getD block (0 + (p - at)) 0) → Laid before after at (at + count) (λ p. getD xs (start + (p - at)) 0)
-laid-taken xs block before after start at count t w =
-    laid-as before after at (at + count) _ _ (λ p lo hi. ap (λ i. getD block i 0) (zero-add (p - at)) ∙ t .taken (p - at) (omega arith)) w

@@ -1,12 +1,12 @@
--- `runs::copy` meets its contract: after i turns the first i bytes are laid.
+-- `moving::copy` meets its contract: after i turns the first i letters are laid.
 use mathlib.Core.Path.{_≡_, ap}
 use Prim.Native.Nat.{ℕ, _+_, _-_, _≤_}
 use native.Mathlib.Omega.{arith}
 use lib.ListN.{getD}
-use Rattle.share.specs.Writing.{Laid}
-use Rattle.share.proofs.Laying.{nothing-laid, laid-one, laid-until}
-use Rattle.share.proofs.runs.copy.Statement.{statement}
-use Rattle.share.proofs.runs.copy.Tie as tie
+use Rattle.letters.specs.Laid.{Laid}
+use Rattle.letters.proofs.Laying.{nothing-laid, laid-one, laid-until}
+use Rattle.letters.proofs.moving.copy.Statement.{statement}
+use Rattle.letters.proofs.moving.copy.Tie as tie
 
 passed : (at i : ℕ) → i ≡ at + i - at
 passed at i = omega arith

@@ -1,11 +1,11 @@
--- `runs::clear` meets its contract: after each turn one zero more is laid.
+-- `moving::clear` meets its contract: after each turn one zero more is laid.
 use mathlib.Core.Path.{refl}
 use Prim.Native.Nat.{_-_, _≤_}
 use native.Mathlib.Omega.{arith}
-use Rattle.share.specs.Writing.{Laid}
-use Rattle.share.proofs.Laying.{nothing-laid, laid-one, laid-until}
-use Rattle.share.proofs.runs.clear.Statement.{statement}
-use Rattle.share.proofs.runs.clear.Tie as tie
+use Rattle.letters.specs.Laid.{Laid}
+use Rattle.letters.proofs.Laying.{nothing-laid, laid-one, laid-until}
+use Rattle.letters.proofs.moving.clear.Statement.{statement}
+use Rattle.letters.proofs.moving.clear.Tie as tie
 
 abbrev Inv-loop : tie.InvT-loop
 Inv-loop to₀ at end i₀ to i = (at ≤ i) × (i ≤ end) × Laid to₀ to at i (λ p. 0)
