@@ -10,7 +10,6 @@ use Rattle.store.specs.Matrix.{packets}
 use Rattle.store.specs.Pieces.{reading}
 use Rattle.store.specs.Counts.{recoveryCost}
 use Rattle.store.specs.Repair.{helping, equations}
-use Rattle.share.specs.declared.Head.{Head}
 use Rattle.share.specs.Share.{shareOf}
 use Rattle.share.specs.Calls.{noHead, headFor, Judges}
 

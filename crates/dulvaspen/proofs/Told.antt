@@ -2,11 +2,10 @@
 use mathlib.Core.Path.{_≡_, refl, sym, ap, _∙_}
 use mathlib.Core.List.{List}
 use Prim.Native.Nat.{ℕ, zero, suc}
-use lib.ListN.{length}
 use Rattle.group.specs.declared.Group.{Group}
 use Rattle.group.specs.declared.Refusal.{Refusal}
 use Rattle.group.specs.declared.Answer.{Answer}
-use Rattle.group.specs.Answers.{refusalNumber, numberOf, valueOf, ifFine, Answers}
+use Rattle.group.specs.Answers.{numberOf, valueOf, ifFine, Answers}
 use Rattle.group.proofs.Refusals.{numbered, if-refused}
 use Rattle.store.specs.Calls.{Called, Recovered, Repaired}
 use Rattle.dulvaspen.specs.Exports.{Tells, Fills, Recovers, Repairs}

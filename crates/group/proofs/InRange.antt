@@ -1,17 +1,14 @@
 -- What a check that refuses nothing tells, and what it takes: each is an exactly if.
-use mathlib.Core.Path.{_≡_, refl, sym, ap, _∙_}
-use mathlib.Core.Bool.{Bool, true, false}
-use mathlib.Core.List.{List, [], _∷_}
-use Prim.Native.Nat.{ℕ, zero, suc, _+_, _-_, _≤_, _<_}
+use mathlib.Core.Path.{_≡_}
+use mathlib.Core.Bool.{true}
+use Prim.Native.Nat.{ℕ, _-_, _≤_}
 use native.Mathlib.Omega.{arith}
-use lib.Dec.{leb, ltb, eqb}
-use lib.ListN.{length, getD}
-use borrow.Author.Tests.{leb-true, leb-false, ltb-true, le-leb, lt-ltb, eqb-true, eq-eqb}
-use Rattle.letters.specs.Places.{both}
+use lib.Dec.{leb}
+use borrow.Author.Tests.{leb-true, le-leb}
 use Rattle.group.specs.declared.Group.{Group}
-use Rattle.group.specs.Answers.{unless, first}
-use Rattle.group.specs.Ranges.{between, longest, numbersInRange, lengthInRange, groupRefusal, idRefusal, nodeRefusal, allInRange, falling, among, idsRefusal, InRange, NodeOf}
-use Rattle.group.proofs.Refusals.{unless-none, unless-holds, first-none, both-true}
+use Rattle.group.specs.Answers.{unless}
+use Rattle.group.specs.Ranges.{between, longest, numbersInRange, lengthInRange, groupRefusal, idRefusal, nodeRefusal, InRange, NodeOf}
+use Rattle.group.proofs.Refusals.{unless-none, first-none, both-true}
 
 pub between-true : (lo hi x : ℕ) → between lo hi x ≡ true → (lo ≤ x) × (x ≤ hi)
 between-true lo hi x e =

@@ -1,13 +1,12 @@
 -- Bounds on every length of a group in range, so that nothing overflows, and where packets stand in a node's letters.
-use mathlib.Core.Path.{_≡_, refl, sym, ap, _∙_}
-use Prim.Native.Nat.{ℕ, zero, suc, _+_, _-_, _*_, _/_, _≤_, _<_}
-use native.Mathlib.Nat.{mul-le-mul, mul-le-mul-left, mul-le-mul-right, mul-add, add-mul, one-mul}
+use Prim.Native.Nat.{ℕ, _+_, _-_, _*_, _≤_}
+use native.Mathlib.Nat.{mul-le-mul, mul-le-mul-left, mul-le-mul-right, add-mul, one-mul}
 use native.Mathlib.Omega.{arith}
 use Rattle.shifts.specs.Rule.{t}
 use Rattle.shifts.proofs.Rule.{at-most}
 use Rattle.group.specs.declared.Group.{Group}
-use Rattle.group.specs.Ranges.{InRange, NodeOf, longest}
-use Rattle.group.specs.Lengths.{sequences, fileLetters, packetLength, packetStart, nodeLetters, repairLetters, shareBytes, blocks}
+use Rattle.group.specs.Ranges.{InRange, NodeOf}
+use Rattle.group.specs.Lengths.{sequences, fileLetters, packetLength, packetStart, nodeLetters}
 
 module _ (g : Group) (r : InRange g) where
   pub kd-at-most : g .k * g .d ≤ 225

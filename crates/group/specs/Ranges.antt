@@ -1,5 +1,5 @@
 -- The ranges of document 01's "Group numbers and letters", and the refusals that follow from them.
-use mathlib.Core.Bool.{Bool, true, false, not}
+use mathlib.Core.Bool.{Bool, true, false}
 use mathlib.Core.List.{List, [], _∷_}
 use Prim.Native.Nat.{ℕ, _-_, _+_, _≤_}
 use lib.Dec.{leb, ltb, eqb}

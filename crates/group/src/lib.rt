@@ -3,7 +3,6 @@ pub mod checks;
 pub mod lengths;
 
 ghost use mathlib.Core.Path.{_≡_};
-ghost use Prim.Native.Nat.{ℕ};
 ghost use Rattle.group.specs.Answers.{Answers, refusalNumber, numberOf};
 ghost use Rattle.group.specs.Lengths.{fileLetters, nodeLetters, repairLetters, shareBytes};
 ghost use Rattle.group.specs.Ranges.{groupRefusal, nodeRefusal};

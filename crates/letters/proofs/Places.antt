@@ -1,15 +1,14 @@
 -- What the letter at a place is: inside its run, outside, and after a store. Nothing else opens the definition.
 use mathlib.Core.Path.{_≡_, refl, sym, ap, _∙_}
-use mathlib.Core.Bool.{Bool, true, false, cond}
-use mathlib.Core.List.{List, [], _++_}
+use mathlib.Core.Bool.{Bool, true, false}
+use mathlib.Core.List.{List, []}
 use mathlib.Core.Logic.{_⊎_, inl, inr, ⊎-elim}
-use Prim.Native.Nat.{ℕ, zero, suc, _+_, _-_, _≤_, _<_}
+use Prim.Native.Nat.{ℕ, _+_, _-_, _≤_, _<_}
 use native.Mathlib.Nat.{zero-add}
 use native.Mathlib.Omega.{arith}
-use lib.Dec.{ltb, leb}
-use lib.ListN.{length, getD, set, take, drop, length-append, length-drop, List·getD-eq-default, List·getD-append}
+use lib.ListN.{length, getD, set, take, drop, length-drop, List·getD-eq-default}
 use lib.Seq.{getD-set-same, getD-set-other, getD-drop, getD-take, length-take-le}
-use borrow.Author.Tests.{lt-ltb, le-ltb, le-leb, lt-leb, ltb-true, leb-true}
+use borrow.Author.Tests.{lt-ltb, le-ltb, le-leb, lt-leb}
 use Rattle.letters.specs.Places.{both, inside, letter}
 use Rattle.letters.proofs.Cases.{le-or-lt}
 

@@ -6,8 +6,8 @@ use Prim.Native.Nat.{ℕ, zero, suc, _+_, _-_, _≤_, _<_}
 use native.Mathlib.Nat.{sub-zero, suc-sub-suc}
 use native.Mathlib.Numerals.{add-one}
 use native.Mathlib.Omega.{arith}
-use lib.ListN.{length, getD, take, drop, set, length-append, length-take, length-drop, length-set, List·getD-eq-default, List·getD-append}
-use lib.Seq.{ext-getD, getD-take, getD-drop, getD-append-add, getD-set-same, getD-set-other, length-take-le, take-suc}
+use lib.ListN.{length, getD, take, set, length-append, length-take, length-drop, List·getD-eq-default, List·getD-append}
+use lib.Seq.{ext-getD, getD-append-add, length-take-le, take-suc}
 use Rattle.letters.specs.Algebra.{Adding, Letters}
 use Rattle.letters.specs.Places.{letter}
 use Rattle.letters.specs.Runs.{xored, added}

@@ -1,7 +1,7 @@
 -- What the loops that write leave.
 use mathlib.Core.Path.{_≡_}
 use mathlib.Core.List.{List}
-use Prim.Native.Nat.{ℕ, _+_, _-_, _/_, _%_, _≤_, _<_}
+use Prim.Native.Nat.{ℕ, _+_, _-_, _/_, _%_, _<_}
 use lib.ListN.{length, getD}
 use Rattle.share.specs.Share.{headSize, blockSize}
 use Rattle.share.specs.Places.{blockByte}

@@ -1,6 +1,6 @@
 // The records of a share: their sizes, their kinds and their numbers.
 ghost use mathlib.Core.Path.{_≡_};
-ghost use Prim.Native.Nat.{min, _%_, _≤_, _<_};
+ghost use Prim.Native.Nat.{_%_, _≤_, _<_};
 ghost use lib.ListN.{getD};
 ghost use Rattle.group.specs.Lengths.{blocks};
 ghost use Rattle.share.specs.Places.{blockKind, recordSize, sizeFor, letterBound};

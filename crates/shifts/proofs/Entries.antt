@@ -1,5 +1,5 @@
 -- A table that is the list which a rule gives has what the rule gives at every index. That it is that list the checker computes, entry by entry.
-use mathlib.Core.Path.{_≡_, refl, ap, _∙_}
+use mathlib.Core.Path.{_≡_, ap, _∙_}
 use mathlib.Core.List.{List, [], _∷_}
 use Prim.Native.Nat.{ℕ, zero, suc, _+_, _<_}
 use native.Mathlib.Omega.{arith}

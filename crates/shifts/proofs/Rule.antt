@@ -1,7 +1,7 @@
 -- Document 01's rule has refined increasing differences: a step of one column is worth i - 1 places at node i.
 use mathlib.Core.Path.{_≡_, sym, subst}
 use mathlib.Core.Logic.{⊎-elim}
-use Prim.Native.Nat.{ℕ, zero, suc, _+_, _-_, _*_, _≤_, _<_}
+use Prim.Native.Nat.{ℕ, _+_, _-_, _*_, _≤_, _<_}
 use native.Mathlib.Nat.{mul-le-mul, mul-le-mul-left, mul-pos, mul-add, add-mul, zero-mul, mul-zero, eq-or-lt-of-le}
 use native.Mathlib.Omega.{arith}
 use Rattle.shifts.specs.Rule.{ShiftRule, t, Refined}

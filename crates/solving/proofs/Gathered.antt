@@ -5,7 +5,7 @@ use Prim.Native.Nat.{ℕ, _+_, _-_, _*_, _≤_, _<_}
 use native.Mathlib.Omega.{arith}
 use lib.Bits.{bitXor}
 use lib.ListN.{length, getD}
-use Rattle.letters.specs.Algebra.{xors, sum}
+use Rattle.letters.specs.Algebra.{xors}
 use Rattle.letters.proofs.Sums.{sum-same, sum-more, sum-none-terms, none-plus}
 use Rattle.solving.specs.System.{part, sequence}
 use Rattle.solving.specs.Order.{delay}

@@ -1,7 +1,7 @@
 -- The solver on the nodes of a group: rows that hold a rule's shifts at falling ids can be solved, and what comes out is said by the rule alone.
 use mathlib.Core.Path.{_≡_, sym, _∙_}
 use mathlib.Core.List.{List}
-use Prim.Native.Nat.{ℕ, _*_, _^_, _≤_}
+use Prim.Native.Nat.{ℕ, _^_, _≤_}
 use native.Mathlib.Omega.{arith}
 use lib.ListN.{length}
 use Rattle.letters.specs.Algebra.{xors}

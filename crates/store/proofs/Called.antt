@@ -1,6 +1,6 @@
 -- What a refused call and one that is not refused leave.
-use mathlib.Core.Path.{_≡_, refl, sym, ap, ap₂, _∙_}
-use mathlib.Core.Bool.{true, not}
+use mathlib.Core.Path.{_≡_, refl, sym, ap₂, _∙_}
+use mathlib.Core.Bool.{not}
 use mathlib.Core.List.{List}
 use Prim.Native.Nat.{ℕ, zero, suc, _+_, _≤_}
 use native.Mathlib.Omega.{arith}
@@ -11,7 +11,7 @@ use Rattle.group.specs.declared.Group.{Group}
 use Rattle.group.specs.declared.Refusal.{Refusal}
 use Rattle.group.specs.declared.Answer.{Answer}
 use Rattle.group.specs.Answers.{refusalNumber, unless, first}
-use Rattle.group.specs.Ranges.{between, InRange, NodeOf, groupRefusal, nodeRefusal}
+use Rattle.group.specs.Ranges.{between, InRange, groupRefusal, nodeRefusal}
 use Rattle.shifts.specs.Rule.{t}
 use Rattle.group.specs.Lengths.{packetStart, packetLength, nodeLetters}
 use Rattle.group.proofs.Sizes.{packet-fits, node-at-most}

@@ -1,7 +1,7 @@
 -- The rows that the store hands the solver are the chosen nodes' shifts, and falling ids give them their order.
 use mathlib.Core.Path.{_≡_, refl, sym, ap, ap₂, _∙_}
 use mathlib.Core.List.{List}
-use Prim.Native.Nat.{ℕ, _+_, _-_, _*_, _/_, _%_, _^_, _≤_, _<_}
+use Prim.Native.Nat.{ℕ, _+_, _-_, _*_, _/_, _%_, _^_, _≤_}
 use native.Mathlib.Omega.{arith}
 use lib.ListN.{length, getD}
 use Rattle.letters.specs.Algebra.{xors, counts, sum}
@@ -9,10 +9,9 @@ use Rattle.letters.proofs.Sums.{sum-same}
 use Rattle.shifts.specs.Rule.{t}
 use Rattle.shifts.proofs.Rule.{at-most}
 use Rattle.solving.specs.System.{part}
-use Rattle.solving.specs.Order.{Ordered}
 use Rattle.solving.specs.Count.{taken, ofEquation, additions, other, within}
 use Rattle.letters.specs.Worth.{worthOf}
-use Rattle.solving.specs.Solver.{shiftIn, Rows, Solvable}
+use Rattle.solving.specs.Solver.{shiftIn, Solvable}
 use Rattle.solving.proofs.Order.{ordered-same, ordered-fewer}
 use Rattle.solving.proofs.System.{part-shifts}
 use Rattle.group.specs.declared.Group.{Group}

@@ -1,8 +1,7 @@
 -- Ids that the checks let through are chosen: as many as wanted, of the group, and falling.
-use mathlib.Core.Path.{_≡_, ap}
-use mathlib.Core.Bool.{true, false, not}
+use mathlib.Core.Path.{_≡_}
 use mathlib.Core.List.{List}
-use Prim.Native.Nat.{ℕ, _-_, _≤_, _<_}
+use Prim.Native.Nat.{ℕ, _-_}
 use native.Mathlib.Omega.{arith}
 use lib.Dec.{eqb}
 use lib.ListN.{length}
@@ -10,9 +9,9 @@ use borrow.Author.Tests.{eqb-true}
 use Rattle.letters.specs.Places.{both}
 use Rattle.group.specs.declared.Group.{Group}
 use Rattle.group.specs.Answers.{unless, first}
-use Rattle.group.specs.Ranges.{allInRange, falling, InRange, nodeRefusal, groupRefusal, idsRefusal}
+use Rattle.group.specs.Ranges.{allInRange, falling, InRange, nodeRefusal, idsRefusal}
 use Rattle.group.proofs.Refusals.{first-none, unless-none, both-true}
-use Rattle.group.proofs.InRange.{in-range, node-of}
+use Rattle.group.proofs.InRange.{node-of}
 use Rattle.group.proofs.Ids.{in-range-at, falls-at}
 use Rattle.store.specs.Lists.{ranked}
 use Rattle.store.specs.Pieces.{Chosen}

@@ -1,12 +1,10 @@
 -- Where the sequences of each column stand in the file: column u has min(u,k) of them, after those of the columns before it.
 use mathlib.Core.Path.{_≡_, refl, sym, ap, ap₂, _∙_}
-use mathlib.Core.Bool.{cond}
 use mathlib.Core.Logic.{⊎-elim}
 use Prim.Native.Nat.{ℕ, zero, suc, _+_, _-_, _*_, _/_, _≤_, _<_, min}
 use native.Mathlib.Nat.{mul-comm, add-mul, mul-add, zero-mul, one-mul, mul-one, add-zero, mul-le-mul-right, le-of-eq, eq-or-lt-of-le, le-of-suc-le-suc}
 use native.Mathlib.Numerals.{add-one}
 use native.Mathlib.Omega.{arith}
-use lib.Dec.{leb}
 use borrow.Author.Tests.{le-leb, lt-leb}
 use Rattle.letters.proofs.Cases.{le-or-lt}
 use Rattle.group.specs.declared.Group.{Group}

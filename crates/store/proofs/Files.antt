@@ -1,17 +1,16 @@
 -- Letters laid out as a file: how many there are, where each stands, and that a file is nothing but its letters at its entries.
 use mathlib.Core.Path.{_≡_, sym, ap, _∙_}
 use mathlib.Core.List.{List}
-use Prim.Native.Nat.{ℕ, _+_, _-_, _*_, _≤_, _<_, min}
+use Prim.Native.Nat.{ℕ, _+_, _-_, _*_, _≤_, min}
 use native.Mathlib.Nat.{add-mul, zero-mul, add-assoc}
 use native.Mathlib.Omega.{arith}
 use lib.ListN.{length, getD, take, drop, length-drop}
 use lib.Seq.{getD-take, getD-drop, length-take-le}
-use Rattle.letters.specs.Algebra.{Adding}
 use Rattle.solving.specs.System.{sequence}
 use Rattle.solving.proofs.System.{sequence-inside, index-below}
 use Rattle.group.specs.declared.Group.{Group}
 use Rattle.group.specs.Ranges.{InRange}
-use Rattle.group.specs.Lengths.{sequences, fileLetters}
+use Rattle.group.specs.Lengths.{fileLetters}
 use Rattle.store.specs.Lists.{run, joined}
 use Rattle.store.specs.Matrix.{before, entryNumber, asFile}
 use Rattle.store.proofs.Lists.{Starts, length-joined, getD-joined, ends-within, is-joined}

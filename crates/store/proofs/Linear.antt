@@ -3,11 +3,11 @@ use mathlib.Core.Path.{_≡_, refl, sym, ap, ap₂, _∙_}
 use mathlib.Core.Bool.{Bool, true, false, cond}
 use mathlib.Core.List.{List, [], _∷_, _++_}
 use mathlib.Core.Logic.{⊎-elim}
-use Prim.Native.Nat.{ℕ, zero, suc, _+_, _-_, _*_, _≤_, _<_, min, max}
+use Prim.Native.Nat.{ℕ, zero, suc, _+_, _-_, _*_, min, max}
 use native.Mathlib.Omega.{arith}
 use lib.Dec.{leb}
 use lib.ListN.{length, getD, length-append, List·getD-eq-default}
-use Rattle.letters.specs.Algebra.{Adding, sum}
+use Rattle.letters.specs.Algebra.{Adding}
 use Rattle.letters.specs.Places.{inside, letter}
 use Rattle.letters.specs.Runs.{xored}
 use Rattle.letters.proofs.Cases.{le-or-lt}

@@ -1,7 +1,7 @@
 -- What each public call's contract says allows one answer and one content of each buffer.
-use mathlib.Core.Path.{_≡_, refl, sym, ap, ap₂, subst, _∙_}
+use mathlib.Core.Path.{_≡_, refl, sym, ap, _∙_}
 use mathlib.Core.List.{List}
-use Prim.Native.Nat.{ℕ, zero, suc, _*_}
+use Prim.Native.Nat.{ℕ, zero, suc}
 use native.Mathlib.Omega.{arith}
 use lib.Dec.{eqb}
 use lib.ListN.{length}
@@ -9,8 +9,8 @@ use borrow.Author.Tests.{eqb-true}
 use Rattle.letters.specs.Algebra.{bytes, xors}
 use Rattle.group.specs.declared.Group.{Group}
 use Rattle.group.specs.declared.Answer.{Answer}
-use Rattle.group.specs.Answers.{unless, first, ifFine}
-use Rattle.group.specs.Lengths.{fileLetters, nodeLetters, repairLetters}
+use Rattle.group.specs.Answers.{unless, ifFine}
+use Rattle.group.specs.Lengths.{fileLetters, nodeLetters}
 use Rattle.group.proofs.Outcomes.{answer-once}
 use Rattle.group.proofs.Refusals.{first-none, unless-none}
 use Rattle.store.specs.Pieces.{reading}

@@ -1,26 +1,24 @@
 -- Laws of the matrix and of the packets: the matrix is symmetric with a zero corner, and what a node holds is letter for letter the product.
-use mathlib.Core.Path.{_≡_, refl, sym, ap, ap₂, _∙_}
+use mathlib.Core.Path.{_≡_, refl, sym, ap, _∙_}
 use mathlib.Core.Bool.{Bool, true, false, cond}
 use mathlib.Core.List.{List}
 use mathlib.Core.Logic.{⊎-elim}
-use Prim.Native.Nat.{ℕ, zero, suc, _+_, _-_, _*_, _≤_, _<_, min, max}
+use Prim.Native.Nat.{ℕ, _+_, _-_, _*_, _≤_, _<_, min, max}
 use native.Mathlib.Nat.{min-comm, max-comm, add-mul, one-mul, zero-mul, eq-or-lt-of-le}
 use native.Mathlib.Omega.{arith}
 use lib.Dec.{leb}
 use lib.ListN.{length, getD}
 use borrow.Author.Tests.{le-leb, lt-leb}
-use Rattle.letters.specs.Algebra.{Adding, sum}
+use Rattle.letters.specs.Algebra.{Adding}
 use Rattle.letters.specs.Places.{letter}
 use Rattle.letters.proofs.Places.{place-cases, letter-inside, letter-zero, letter-above}
-use Rattle.letters.proofs.Sums.{sum-none, sum-same}
+use Rattle.letters.proofs.Sums.{sum-none}
 use Rattle.shifts.specs.Rule.{t}
 use Rattle.shifts.proofs.Rule.{refined}
 use Rattle.solving.specs.System.{sequence, Sequences}
 use Rattle.solving.proofs.System as system
 use Rattle.group.specs.declared.Group.{Group}
-use Rattle.group.specs.Ranges.{InRange, NodeOf}
 use Rattle.group.specs.Lengths.{packetLength, packetStart, nodeLetters}
-use Rattle.store.specs.Lists.{run, joined}
 use Rattle.store.specs.Matrix.{entryNumber, moved, matrix, packetLetter, packet, packets}
 use Rattle.store.specs.Repair.{heldLetter}
 use Rattle.store.proofs.Lists.{length-run, getD-run, Starts, length-joined, getD-joined}

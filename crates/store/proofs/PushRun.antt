@@ -1,29 +1,25 @@
 -- One run of a solved column taken out of an earlier entry: which letters of the buffer change, and what that is worth.
-use mathlib.Core.Path.{_≡_, refl, sym, ap, ap₂, subst, _∙_}
-use mathlib.Core.Bool.{cond}
-use mathlib.Core.List.{List, [], _∷_, _++_}
+use mathlib.Core.Path.{_≡_, refl, sym, ap, ap₂, _∙_}
+use mathlib.Core.List.{List, [], _∷_}
 use mathlib.Core.Logic.{⊎-elim}
-use Prim.Native.Nat.{ℕ, zero, suc, _+_, _-_, _*_, _≤_, _<_, min}
+use Prim.Native.Nat.{ℕ, zero, suc, _+_, _-_, _*_, _≤_, _<_}
 use native.Mathlib.Nat.{add-mul, one-mul, mul-le-mul-right, zero-add, add-zero, eq-or-lt-of-le}
-use native.Mathlib.Numerals.{add-one}
 use native.Mathlib.Omega.{arith}
-use lib.Bits.{bitXor, xor-zero-r}
+use lib.Bits.{bitXor}
 use lib.ListN.{length, getD, take, drop, length-drop}
 use lib.Seq.{take-suc, getD-drop, length-take-le}
 use Rattle.letters.specs.Algebra.{xors, counts, sum}
-use Rattle.letters.specs.Places.{inside, letter}
+use Rattle.letters.specs.Places.{letter}
 use Rattle.letters.specs.Runs.{added}
 use Rattle.letters.specs.Worth.{worthOf, worth}
 use Rattle.letters.proofs.Cases.{le-or-lt}
-use Rattle.letters.proofs.Places.{place-cases, inside-true, inside-below, letter-inside, letter-zero, letter-above, letter-of-part}
+use Rattle.letters.proofs.Places.{place-cases, inside-true, inside-below, letter-inside, letter-zero, letter-of-part}
 use Rattle.letters.proofs.Runs.{length-added, added-at, added-before, added-after}
-use Rattle.letters.proofs.Sums.{sum-same, sum-none, sum-split, sum-more}
+use Rattle.letters.proofs.Sums.{sum-same, sum-none, sum-split}
 use Rattle.letters.proofs.Worth.{worth-append}
 use Rattle.solving.specs.System.{sequence}
 use Rattle.solving.specs.Count.{within}
 use Rattle.solving.proofs.System.{sequence-inside, sequences}
-use Rattle.group.specs.declared.Group.{Group}
-use Rattle.group.specs.Lengths.{fileLetters}
 
 -- a run of fewer letters has the same letters at its places
 letter-longer : (xs : List ℕ) (s n m p : ℕ) → p ≤ n → n ≤ m → letter 0 xs s n p ≡ letter 0 xs s m p

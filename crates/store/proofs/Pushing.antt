@@ -2,8 +2,7 @@
 use mathlib.Core.Path.{_≡_, refl, sym, ap, ap₂, subst, _∙_}
 use mathlib.Core.List.{List}
 use mathlib.Core.Logic.{⊎-elim}
-use Prim.Native.Nat.{ℕ, zero, suc, _+_, _-_, _*_, _≤_, _<_, min}
-use native.Mathlib.Nat.{eq-or-lt-of-le}
+use Prim.Native.Nat.{ℕ, _+_, _-_, _*_, _≤_, _<_, min}
 use native.Mathlib.Omega.{arith}
 use lib.Bits.{bitXor, xor-zero-r}
 use lib.ListN.{length, take, drop, length-take}
@@ -20,10 +19,8 @@ use Rattle.solving.specs.Count.{within}
 use Rattle.solving.specs.Solver.{shiftIn}
 use Rattle.solving.proofs.System.{sequences}
 use Rattle.group.specs.declared.Group.{Group}
-use Rattle.group.specs.Ranges.{InRange}
-use Rattle.group.specs.Lengths.{fileLetters}
 use Rattle.store.specs.Lists.{ranked}
-use Rattle.store.specs.Matrix.{before, entryNumber}
+use Rattle.store.specs.Matrix.{entryNumber}
 use Rattle.store.specs.Recovery.{standing, seenAt, Collected, runWorth, PushedRun, PushedInto, Pushed}
 use Rattle.store.specs.Steps.{RowsOf}
 use Rattle.store.proofs.Charted.{rows-shift}

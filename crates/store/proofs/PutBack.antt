@@ -1,11 +1,11 @@
 -- A part of a buffer that was lent and has come back: what lies before it and after it is as it was.
-use mathlib.Core.Path.{_≡_, refl, sym, ap, _∙_}
+use mathlib.Core.Path.{_≡_, sym, ap, _∙_}
 use mathlib.Core.List.{List, _++_, append-assoc}
 use Prim.Native.Nat.{ℕ, _+_, _-_, _≤_, _<_}
 use native.Mathlib.Omega.{arith}
-use lib.ListN.{length, getD, take, drop, length-append, length-take, length-drop, List·getD-append}
+use lib.ListN.{length, getD, take, drop, length-append, length-drop, List·getD-append}
 use lib.Seq.{getD-take, getD-drop, getD-append-add, length-take-le, take-at}
-use borrow.Rule.Slice.PartMut.{putMid, postOf, post-is, same-len-mid}
+use borrow.Rule.Slice.PartMut.{putMid, postOf, post-is}
 
 module _ {A : Type 0} (xs ys : List A) (a e : ℕ) (order : a ≤ e) (fits : e ≤ length xs) (long : length ys ≡ e - a) where
   -- the buffer with ys in the part's place

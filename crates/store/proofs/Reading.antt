@@ -1,5 +1,5 @@
 -- What one column's pieces hold: the parts of that column's own entries, and what later columns put into them. So reading gives one file's pieces and no other's, column by column from the last one on.
-use mathlib.Core.Path.{_≡_, refl, sym, ap, ap₂, _∙_}
+use mathlib.Core.Path.{_≡_, refl, sym, ap, _∙_}
 use mathlib.Core.List.{List}
 use mathlib.Core.Logic.{⊎-elim}
 use Prim.Native.Nat.{ℕ, zero, suc, _+_, _-_, _≤_, _<_, min}
@@ -10,16 +10,16 @@ use Rattle.letters.proofs.Cases.{le-or-lt}
 use Rattle.letters.proofs.Sums.{sum-same, sum-split, sum-none, plus-cancel}
 use Rattle.shifts.specs.Rule.{t}
 use Rattle.shifts.proofs.Rule.{refined}
-use Rattle.solving.specs.System.{part, sequence}
+use Rattle.solving.specs.System.{part}
 use Rattle.solving.specs.Order.{Ordered, ruled}
 use Rattle.solving.proofs.Order.{falling-ordered, ordered-fewer}
 use Rattle.solving.proofs.OneSolution.{one-solution}
 use Rattle.group.specs.declared.Group.{Group}
 use Rattle.group.specs.Lengths.{fileLetters}
 use Rattle.store.specs.Lists.{ranked}
-use Rattle.store.specs.Matrix.{entryNumber, asFile, moved, matrix, packetLetter}
-use Rattle.store.specs.Pieces.{pieceLetter, reading, Chosen}
-use Rattle.store.proofs.Files.{asFile-at, is-asFile}
+use Rattle.store.specs.Matrix.{asFile, moved, matrix, packetLetter}
+use Rattle.store.specs.Pieces.{pieceLetter, Chosen}
+use Rattle.store.proofs.Files.{is-asFile}
 use Rattle.store.proofs.Product.{symmetric, corner, free, entries}
 
 -- the shifts of the chosen nodes, by rank and column

@@ -1,10 +1,10 @@
 -- Any d nodes rebuild a lost one: since the matrix is symmetric, what a helper sends is a part of the lost node's own packets, and the d parts have one solution.
-use mathlib.Core.Path.{_≡_, refl, sym, ap, ap₂, _∙_}
+use mathlib.Core.Path.{_≡_, refl, sym, ap, _∙_}
 use mathlib.Core.List.{List}
 use mathlib.Core.Logic.{⊎-elim}
-use Prim.Native.Nat.{ℕ, zero, suc, _+_, _-_, _*_, _≤_, _<_}
+use Prim.Native.Nat.{ℕ, _+_, _-_, _*_, _≤_}
 use native.Mathlib.Omega.{arith}
-use lib.ListN.{length, getD}
+use lib.ListN.{length}
 use Rattle.letters.specs.Algebra.{Adding, Letters, sum}
 use Rattle.letters.proofs.Places.{place-cases}
 use Rattle.letters.proofs.Sums.{sum-same, sum-swap}

@@ -3,32 +3,31 @@ use mathlib.Core.Path.{_≡_, refl, sym, ap, ap₂, subst, _∙_}
 use mathlib.Core.Bool.{Bool, true, false, cond}
 use mathlib.Core.List.{List}
 use mathlib.Core.Logic.{⊎-elim}
-use Prim.Native.Nat.{ℕ, zero, suc, _+_, _-_, _*_, _≤_, _<_, min}
-use native.Mathlib.Nat.{add-mul, one-mul, mul-le-mul, mul-le-mul-right, add-assoc, mul-one, eq-or-lt-of-le}
+use Prim.Native.Nat.{ℕ, _+_, _-_, _*_, _≤_, _<_, min}
+use native.Mathlib.Nat.{add-mul, mul-le-mul, mul-le-mul-right, add-assoc, mul-one, eq-or-lt-of-le}
 use native.Mathlib.Omega.{arith}
 use lib.Bits.{bitXor}
 use lib.Dec.{eqb}
 use lib.ListN.{length, getD, take, drop, length-drop}
 use lib.Seq.{getD-take, getD-drop, length-take-le}
 use Rattle.letters.specs.Algebra.{xors, counts, sum}
-use Rattle.letters.specs.Places.{inside, letter}
+use Rattle.letters.specs.Places.{inside}
 use Rattle.letters.specs.Worth.{worthOf}
 use Rattle.letters.proofs.Cases.{le-or-lt}
 use Rattle.letters.proofs.Places.{letter-same}
 use Rattle.letters.proofs.Sums.{sum-same, sum-at-most}
 use Rattle.letters.proofs.Worth.{worthOf-at-most}
-use Rattle.solving.specs.System.{part, sequence}
-use Rattle.solving.specs.Count.{other, within, taken, ofEquation, additions}
+use Rattle.solving.specs.System.{sequence}
+use Rattle.solving.specs.Count.{within, taken, ofEquation, additions}
 use Rattle.solving.specs.Solver.{shiftIn, Solved}
 use Rattle.solving.proofs.System.{part-same, index-below}
 use Rattle.group.specs.declared.Group.{Group}
 use Rattle.group.specs.Lengths.{fileLetters}
-use Rattle.store.specs.Lists.{ranked}
 use Rattle.store.specs.Matrix.{before, entryNumber}
 use Rattle.store.specs.Steps.{RowsOf}
 use Rattle.store.specs.Recovery.{standing, seenAt, Collected, runWorth, columnWorth, Pushed, Column}
 use Rattle.store.proofs.Charted.{additions-same, charted-part, charted-additions}
-use Rattle.store.proofs.Columns.{before-apart, before-all, entry-fits}
+use Rattle.store.proofs.Columns.{before-apart, before-all}
 use Rattle.store.proofs.PutBack.{back, back-length, back-before, back-inside, back-after}
 use Rattle.store.proofs.Reading.{shifts}
 

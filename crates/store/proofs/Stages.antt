@@ -2,22 +2,19 @@
 use mathlib.Core.Path.{_≡_, refl, sym, ap, ap₂, subst, _∙_}
 use mathlib.Core.List.{List}
 use mathlib.Core.Logic.{⊎-elim}
-use Prim.Native.Nat.{ℕ, zero, suc, _+_, _-_, _≤_, _<_, min}
+use Prim.Native.Nat.{ℕ, _+_, _-_, _≤_, _<_, min}
 use native.Mathlib.Nat.{add-comm, zero-add}
 use native.Mathlib.Omega.{arith}
 use lib.Bits.{bitXor, xor-comm, xor-zero-r}
-use lib.ListN.{length}
 use Rattle.letters.specs.Algebra.{Adding, bytes, xors, counts, sum}
 use Rattle.letters.specs.Worth.{worthOf}
 use Rattle.letters.proofs.Cases.{le-or-lt, eq-or-ne}
 use Rattle.letters.proofs.Sums.{none-plus, sum-same, sum-none, sum-split, sum-none-terms, plus-twice}
-use Rattle.solving.specs.System.{part}
 use Rattle.solving.specs.Count.{within}
 use Rattle.solving.proofs.System.{part-same}
 use Rattle.group.specs.declared.Group.{Group}
-use Rattle.group.specs.Lengths.{fileLetters}
-use Rattle.store.specs.Matrix.{entryNumber, matrix}
-use Rattle.store.specs.Pieces.{pieceLetter, reading, Chosen}
+use Rattle.store.specs.Matrix.{matrix}
+use Rattle.store.specs.Pieces.{pieceLetter, reading}
 use Rattle.store.specs.Counts.{recoveryCount}
 use Rattle.store.specs.Recovery.{standing, seenAt, Collected, runWorth, columnWorth, Column, Stage}
 use Rattle.store.proofs.Charted.{additions-same}

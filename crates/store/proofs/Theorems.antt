@@ -1,12 +1,11 @@
 -- The theorems of demands 2 and 3, stated about the matrix product.
-use mathlib.Core.Path.{_≡_, refl, sym, ap, ap₂, _∙_}
-use mathlib.Core.List.{List, []}
-use Prim.Native.Nat.{ℕ, _+_, _-_, _*_, _≤_, _<_, min}
+use mathlib.Core.Path.{_≡_, sym, ap, _∙_}
+use mathlib.Core.List.{List}
+use Prim.Native.Nat.{ℕ, _+_, _-_, _*_, _≤_, _<_}
 use native.Mathlib.Omega.{arith}
 use lib.ListN.{length, getD, take, drop, length-drop}
 use lib.Seq.{getD-take, getD-drop, length-take-le}
 use Rattle.letters.specs.Algebra.{Adding, Letters}
-use Rattle.letters.specs.Runs.{xored}
 use Rattle.shifts.specs.Rule.{t}
 use Rattle.solving.specs.System.{sequence}
 use Rattle.group.specs.declared.Group.{Group}

@@ -9,9 +9,7 @@ ghost use mathlib.Core.Path.{_≡_};
 ghost use Prim.Native.Nat.{_+_, _-_, _*_, _≤_, min};
 ghost use lib.ListN.{length};
 ghost use Rattle.group.specs.Answers.{checkNumber};
-ghost use Rattle.group.specs.Lengths.{fileLetters};
 ghost use Rattle.store.specs.Calls.{readersRefusal, Recovered, Readers};
-ghost use Rattle.store.specs.Pieces.{Chosen};
 ghost use Rattle.store.specs.Steps.{RowsOf};
 ghost use Rattle.store.specs.Recovery.{Collected, PushedRun, PushedInto, Pushed, Column, Stage};
 

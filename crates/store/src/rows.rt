@@ -1,6 +1,4 @@
 // The chosen nodes' shifts, laid out as the solver wants them.
-ghost use Prim.Native.Nat.{_≤_};
-ghost use lib.ListN.{length};
 ghost use Rattle.store.specs.Steps.{Known, RowsOf};
 
 // The shift of each node and column: sixteen columns to a row, a row for each id in turn.

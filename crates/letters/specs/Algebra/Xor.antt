@@ -1,6 +1,6 @@
 -- XOR is associative: both sides have the same last digit, by cases, and the same half, by induction on the digits.
 use mathlib.Core.Path.{_≡_, refl, ap₂, _∙_, sym}
-use Prim.Native.Nat.{ℕ, zero, suc, _+_, _*_, _/_, _%_, _<_, _≤_}
+use Prim.Native.Nat.{ℕ, zero, suc, _+_, _*_, _/_, _%_, _<_}
 use native.Mathlib.Omega.{arith}
 use native.Mathlib.Nat.{div-add-mod'}
 use lib.Arith.{bin-ind}

@@ -1,5 +1,5 @@
 -- `checks::exact` meets its contract.
-use borrow.Author.Tests.{le-leb, lt-leb, eq-eqb, ne-eqb, not-true, not-false, leb-true, leb-false}
+use borrow.Author.Tests.{eq-eqb, ne-eqb}
 use Rattle.group.proofs.checks.exact.Statement.{statement}
 use Rattle.group.proofs.checks.exact.Tie as tie
 

@@ -1,6 +1,5 @@
 -- `checks::group` meets its contract.
 use Rattle.group.proofs.Refusals.{failed, held}
-use borrow.Author.Tests.{le-leb, lt-leb, eq-eqb, ne-eqb, not-true, not-false, leb-true, leb-false}
 use Rattle.group.specs.Ranges.{groupRefusal}
 use borrow.Author.Needs.{needs}
 use Rattle.group.proofs.checks.group.Statement.{statement}

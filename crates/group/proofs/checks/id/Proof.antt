@@ -1,6 +1,6 @@
 -- `checks::id` meets its contract.
 use Rattle.group.proofs.Refusals.{both-no}
-use borrow.Author.Tests.{le-leb, lt-leb, eq-eqb, ne-eqb, not-true, not-false, leb-true, leb-false}
+use borrow.Author.Tests.{le-leb, lt-leb}
 use Rattle.group.specs.Ranges.{idRefusal}
 use Rattle.group.proofs.checks.id.Statement.{statement}
 use Rattle.group.proofs.checks.id.Tie as tie

@@ -1,5 +1,5 @@
 -- `checks::length_in_range` meets its contract.
-use borrow.Author.Tests.{le-leb, lt-leb, eq-eqb, ne-eqb, not-true, not-false, leb-true, leb-false}
+use borrow.Author.Tests.{le-leb, lt-leb}
 use Rattle.group.specs.Ranges.{lengthInRange}
 use Rattle.group.proofs.checks.length_in_range.Statement.{statement}
 use Rattle.group.proofs.checks.length_in_range.Tie as tie

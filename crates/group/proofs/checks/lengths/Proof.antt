@@ -1,5 +1,5 @@
 -- `checks::lengths` meets its contract.
-use borrow.Author.Tests.{le-leb, lt-leb, eq-eqb, ne-eqb, not-true, not-false, leb-true, leb-false}
+use borrow.Author.Tests.{eq-eqb, ne-eqb}
 use borrow.Author.Needs.{needs}
 use Rattle.group.proofs.checks.lengths.Statement.{statement}
 use Rattle.group.proofs.checks.lengths.Tie as tie

@@ -1,6 +1,5 @@
 -- `checks::node` meets its contract.
 use Rattle.group.proofs.Refusals.{passed-on, went-on}
-use borrow.Author.Tests.{le-leb, lt-leb, eq-eqb, ne-eqb, not-true, not-false, leb-true, leb-false}
 use Rattle.group.specs.Ranges.{nodeRefusal}
 use borrow.Author.Needs.{needs}
 use Rattle.group.proofs.checks.node.Statement.{statement}

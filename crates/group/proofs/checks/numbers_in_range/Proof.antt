@@ -1,7 +1,7 @@
 -- `checks::numbers_in_range` meets its contract: each return tells which of the tests fails.
 use native.Mathlib.Omega.{arith}
 use Rattle.group.proofs.Refusals.{both-no}
-use borrow.Author.Tests.{le-leb, lt-leb, eq-eqb, ne-eqb, not-true, not-false, leb-true, leb-false}
+use borrow.Author.Tests.{le-leb, lt-leb}
 use Rattle.group.specs.Ranges.{numbersInRange}
 use borrow.Author.Needs.{needs}
 use Rattle.group.proofs.checks.numbers_in_range.Statement.{statement}

@@ -1,5 +1,5 @@
 -- `checks::strictly_falling` meets its contract: at i, the ids from the one before i on decide.
-use mathlib.Core.Path.{_≡_, refl, sym, ap, _∙_}
+use mathlib.Core.Path.{_≡_, refl, sym, _∙_}
 use Prim.Native.Nat.{_≤_, _+_, _-_}
 use lib.ListN.{length, drop}
 use Rattle.group.specs.Ranges.{falling}

@@ -1,7 +1,7 @@
 -- `lengths::file` meets its contract: B is at most 225.
-use mathlib.Core.Path.{_≡_, refl, sym, ap, _∙_}
+use mathlib.Core.Path.{ap}
 use Prim.Native.Nat.{_*_}
-use Rattle.group.specs.Lengths.{sequences, fileLetters}
+use Rattle.group.specs.Lengths.{fileLetters}
 use Rattle.group.proofs.Sizes.{file-at-most}
 use borrow.Author.Needs.{needs}
 use native.Mathlib.Omega.{arith}

@@ -1,7 +1,7 @@
 -- `lengths::node` meets its contract: there are at most 15 packets.
 use native.Mathlib.Omega.{arith}
 use mathlib.Core.Path.{ap}
-use Prim.Native.Nat.{_-_, _*_}
+use Prim.Native.Nat.{_*_}
 use native.Mathlib.Nat.{mul-le-mul}
 use Rattle.group.specs.Lengths.{nodeLetters}
 use borrow.Author.Needs.{needs}

@@ -1,5 +1,5 @@
 -- `reading::judged` meets its contract: the tests are the definition's own.
-use mathlib.Core.Path.{_≡_, sym, _∙_}
+use mathlib.Core.Path.{sym, _∙_}
 use borrow.Author.Tests.{lt-ltb, le-ltb, eq-eqb, ne-eqb}
 use borrow.Author.Needs.{needs}
 use Rattle.share.proofs.reading.judged.Statement.{statement}

@@ -7,8 +7,6 @@ use Rattle.solving.specs.Solver.{shiftIn}
 use Rattle.solving.proofs.Delays.{Filled, filled-first, filled-more, delay-small}
 use Rattle.solving.proofs.rounds.waits.Statement.{statement}
 use Rattle.solving.proofs.rounds.waits.Tie as tie
-use Rattle.solving.proofs.rounds.waits.Reads as reads
-use Rattle.solving.proofs.rounds.waits.Lts as lts
 
 abbrev Inv-loop : tie.InvT-loop
 Inv-loop s rows delays₀ u₀ delays u = (1 ≤ u) × (u ≤ s) × (length delays ≡ 16) × Filled rows delays u

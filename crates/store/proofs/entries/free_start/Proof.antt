@@ -1,6 +1,6 @@
 -- `entries::free_start` meets its contract: entry (v,u) is sequence before(u) + v.
 use native.Mathlib.Omega.{arith}
-use mathlib.Core.Path.{ap, sym, _∙_}
+use mathlib.Core.Path.{ap}
 use Prim.Native.Nat.{ℕ, _+_, _-_, _*_, _≤_}
 use native.Mathlib.Nat.{mul-le-mul}
 use mir.Syntax.{w64}

@@ -1,6 +1,6 @@
 -- `pieces::check_place` meets its contract: each return tells which test fails.
 use native.Mathlib.Omega.{arith}
-use borrow.Author.Tests.{le-leb, lt-leb, eq-eqb, ne-eqb}
+use borrow.Author.Tests.{le-leb, lt-leb}
 use Rattle.group.proofs.Refusals.{both-no}
 use Rattle.store.specs.Calls.{placeRefusal}
 use Rattle.store.proofs.pieces.check_place.Statement.{statement}

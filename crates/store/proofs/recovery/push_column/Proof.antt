@@ -1,6 +1,6 @@
 -- `recovery::push_column` meets its contract: after each turn one earlier column more is done.
 use mathlib.Core.Path.{_≡_, subst, _∙_}
-use Prim.Native.Nat.{_+_, _-_, _*_, _≤_, min}
+use Prim.Native.Nat.{_-_, _*_, _≤_, min}
 use Rattle.store.specs.Recovery.{Pushed}
 use Rattle.store.proofs.Pushing.{push-none, push-more}
 use borrow.Author.Needs.{needs}

@@ -1,7 +1,7 @@
 -- `recovery::push_into` meets its contract: after each turn one entry more of the column is done.
 use native.Mathlib.Omega.{arith}
 use mathlib.Core.Path.{_≡_, subst, _∙_}
-use Prim.Native.Nat.{_+_, _-_, _*_, _≤_}
+use Prim.Native.Nat.{_-_, _*_, _≤_}
 use Rattle.store.specs.Recovery.{PushedInto}
 use Rattle.store.proofs.Pushing.{into-none, into-more}
 use borrow.Author.Needs.{needs}

@@ -1,6 +1,6 @@
 -- `recovery::recover_column` meets its contract: the column is one part of the buffer, which the solver has, and then it is taken out of the columns before it.
 use native.Mathlib.Omega.{arith}
-use mathlib.Core.Path.{_≡_, refl, sym, ap, subst, _∙_}
+use mathlib.Core.Path.{sym, ap, subst, _∙_}
 use Prim.Native.Nat.{_+_, _*_}
 use native.Mathlib.Nat.{mul-le-mul}
 use Rattle.solving.specs.System.{sequence}

@@ -1,6 +1,6 @@
 -- `recovery::recover_columns` meets its contract: after each turn one column more is done.
 use mathlib.Core.Path.{_≡_, subst, _∙_}
-use Prim.Native.Nat.{_+_, _-_, _*_, _≤_}
+use Prim.Native.Nat.{_-_, _*_, _≤_}
 use Rattle.store.specs.Recovery.{Stage}
 use Rattle.store.proofs.Stages.{stage-start, stage-next}
 use native.Mathlib.Omega.{arith}
