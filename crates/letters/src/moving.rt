@@ -3,7 +3,7 @@ ghost use Prim.Native.Nat.{_+_, _-_, _≤_};
 ghost use lib.ListN.{length, getD};
 ghost use Rattle.letters.specs.Laid.{Laid};
 
-// Copies `count` letters that start at index `start` of `from` to index `at` of `to`, whose earlier letters stay as they were.
+// Copies `count` letters that start at index `start` of `from` to index `at` of `to`, whose other letters stay as they were.
 pub fn copy(from: &[u8], start: usize, to: &mut [u8], at: usize, count: usize)
     requires { ⌜ (start + count ≤ length (now from)) × (at + count ≤ length (now to)) ⌝ }
     ensures { λ _. ⌜ Laid (now (to .entry)) (now (to .exit)) at (at + count) (λ p. getD (now (from .entry)) (start + (p - at)) 0) ⌝ }
@@ -15,7 +15,7 @@ pub fn copy(from: &[u8], start: usize, to: &mut [u8], at: usize, count: usize)
     }
 }
 
-// Sets the letters from index `at` up to `end` to zero. The earlier ones stay as they were.
+// Sets the letters from index `at` up to `end` to zero. The others stay as they were.
 pub fn clear(to: &mut [u8], at: usize, end: usize)
     requires { ⌜ (at ≤ end) × (end ≤ length (now to)) ⌝ }
     ensures { λ _. ⌜ Laid (now (to .entry)) (now (to .exit)) at end (λ p. 0) ⌝ }

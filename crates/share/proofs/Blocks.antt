@@ -40,7 +40,7 @@ pub block-laid :
     → Laid (set xs at kind) ys (at + 1) (at + 1 + count) (λ p. getD letters (r * 64 + (p - (at + 1))) 0)
     → Laid xs ys at (at + 1 + count) (blocksByte letters)
 block-laid letters xs ys r at kind count e fits few is w =
-    laid-on xs (set xs at kind) ys at (at + 1) (at + 1 + count) (blocksByte letters) (omega arith)
+    laid-on xs (set xs at kind) ys at (at + 1) (at + 1 + count) (blocksByte letters) (omega arith) (omega arith)
     (laid-one xs xs at at (at + 1) kind (blocksByte letters) (omega arith) refl (omega arith) (nothing-laid xs at at (blocksByte letters) (omega arith))
     (is ∙ sym (byte-of-block letters r 0 at (omega arith) (omega arith))))
     (laid-as _ _ _ _ _ (blocksByte letters) (λ p lo hi. sym (letter-of-block letters r at p e (omega arith) (omega arith))) w)
@@ -73,7 +73,7 @@ pub last-laid :
     → Laid xs zs at (11 + blocks (length letters) * 65) (blocksByte letters)
 last-laid letters xs ys zs at left e l some long v w =
     laid-until xs zs at (at + 65) _ (blocksByte letters) (omega (arith, some))
-    (laid-on xs ys zs at (at + 1 + left) (at + 65) (blocksByte letters) (omega arith)
+    (laid-on xs ys zs at (at + 1 + left) (at + 65) (blocksByte letters) (omega arith) (omega arith)
     (block-laid letters xs ys (length letters / 64) at 3 left e (omega (arith, some)) (omega arith)
     (sym (simp (lt-leb ((length letters / 64 + 1) * 64) (length letters) (omega arith)))) v)
     (zeros-laid letters ys zs (length letters / 64) at (at + 1 + left) e (omega arith) (omega arith) w))
@@ -87,7 +87,7 @@ pub all-copied :
 all-copied xs before between after v w =
     let few : length between - length before / 64 * 64 ≤ 64 = omega (arith, v .same-length) in
     let all =
-    laid-on before between after 0 (length before / 64 * 64) _ (letterIn xs) (omega arith) v
+    laid-on before between after 0 (length before / 64 * 64) (length before / 64 * 64 + (length between - length before / 64 * 64)) (letterIn xs) (omega arith) (omega arith) v
     (letters-of-block xs between after (length before / 64) (length between - length before / 64 * 64) few w) in
     record { counted = all .same-length; copied = λ i h. all .laid i (omega arith) (omega (arith, v .same-length)) }
 
@@ -122,11 +122,11 @@ share-laid h letters xs front full last back long head some rest end =
 
     all : Laid xs back 0 (sizeFor (length letters)) byte
     all =
-        laid-on xs last back 0 (11 + blocks (length letters) * 65) (sizeFor (length letters)) byte (omega arith)
-        (laid-on xs front last 0 11 (11 + blocks (length letters) * 65) byte (omega arith)
+        laid-on xs last back 0 (11 + blocks (length letters) * 65) (sizeFor (length letters)) byte (omega arith) (omega arith)
+        (laid-on xs front last 0 11 (11 + blocks (length letters) * 65) byte (omega arith) (omega arith)
         (laid-as xs front 0 11 _ byte (λ p lo hi. sym (in-head h letters p hi)) head)
         (laid-as front last 11 (11 + blocks (length letters) * 65) _ byte in-block
-        (laid-on front full last 11 (11 + length letters / 64 * 65) _ (blocksByte letters) (omega arith) some rest)))
+        (laid-on front full last 11 (11 + length letters / 64 * 65) (11 + blocks (length letters) * 65) (blocksByte letters) (omega arith) (omega arith) some rest)))
         (laid-as last back _ _ _ byte (λ p lo hi. in-back p lo) end)
 
 -- what is laid of bytes that were taken

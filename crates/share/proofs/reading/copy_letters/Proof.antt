@@ -1,6 +1,6 @@
 -- `reading::copy_letters` meets its contract: after r turns the letters of r blocks are copied, and then those of the last one.
 use mathlib.Core.Path.{_≡_, refl, sym, _∙_}
-use Prim.Native.Nat.{_-_, _*_, _/_, _≤_}
+use Prim.Native.Nat.{_+_, _-_, _*_, _/_, _≤_}
 use native.Mathlib.Omega.{arith}
 use lib.ListN.{length}
 use Rattle.share.specs.Places.{letterIn}
@@ -46,7 +46,7 @@ loop-again c =
       refl,
       omega arith,
       laid-until _ _ _ _ _ _ (omega arith)
-          (laid-on _ (l .packets) _ 0 (l .r * 64) _ _ (omega arith) (l .inv .2) (letters-of-block (c .before .before .before .before .before .before .before .before .args .share .now) _ _ (l .r) 64 (omega arith) (c .before .before .copy-block .ensures))),
+          (laid-on _ (l .packets) _ 0 (l .r * 64) (l .r * 64 + 64) _ (omega arith) (omega arith) (l .inv .2) (letters-of-block (c .before .before .before .before .before .before .before .before .args .share .now) _ _ (l .r) 64 (omega arith) (c .before .before .copy-block .ensures))),
     )
 
 mul-done : tie.Need-mul-done Inv-loop μ-loop

@@ -52,7 +52,7 @@ loop-again c =
       refl,
       omega arith,
       laid-until _ _ _ _ _ _ (omega arith)
-          (laid-on _ (l .share) _ 11 (11 + l .r * 65) _ (blocksByte (a .packets .now)) (omega arith) (l .inv .2)
+          (laid-on _ (l .share) _ 11 (11 + l .r * 65) (11 + l .r * 65 + 1 + 64) (blocksByte (a .packets .now)) (omega arith) (omega arith) (l .inv .2)
           (block-laid (a .packets .now) (l .share) _ (l .r) (11 + l .r * 65) 2 64 refl fits (omega arith)
           (sym (simp (le-leb ((l .r + 1) * 64) (length (a .packets .now)) (omega arith)))) (c .before .before .copy-block .ensures))),
     )
