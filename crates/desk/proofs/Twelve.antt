@@ -7,11 +7,11 @@ use native.Mathlib.Omega.{arith}
 use lib.ListN.{getD, take}
 use Rattle.shifts.specs.Rule.{t}
 use Rattle.group.specs.Lengths.{nodeLetters}
-use Rattle.store.specs.Lists.{joined}
-use Rattle.store.specs.Matrix.{packets}
-use Rattle.store.specs.Pieces.{reading}
-use Rattle.store.specs.Counts.{recoveryCost}
-use Rattle.store.specs.Repair.{helping, equations}
+use Rattle.sequences.specs.Lists.{joined}
+use Rattle.matrix.specs.Matrix.{packets}
+use Rattle.matrix.specs.Pieces.{reading}
+use Rattle.matrix.specs.Counts.{recoveryCost}
+use Rattle.matrix.specs.Repair.{helping, equations}
 use Rattle.share.specs.Share.{shareOf, blockRecords, fullBlocks, lastBlock, ShareOf}
 use Rattle.share.specs.Judgment.{IsShare}
 use Rattle.share.specs.Calls.{noHead, headFor, Judges}

@@ -5,11 +5,11 @@ use Prim.Native.Nat.{ℕ, _<_}
 use lib.ListN.{length, take, replicate}
 use Rattle.letters.specs.Algebra.{xors}
 use Rattle.group.specs.declared.Group.{Group}
-use Rattle.store.specs.Lists.{joined, ranked}
-use Rattle.store.specs.Matrix.{packets}
-use Rattle.store.specs.Pieces.{reading}
-use Rattle.store.specs.Counts.{recoveryCost}
-use Rattle.store.specs.Repair.{helping, equations}
+use Rattle.sequences.specs.Lists.{joined, ranked}
+use Rattle.matrix.specs.Matrix.{packets}
+use Rattle.matrix.specs.Pieces.{reading}
+use Rattle.matrix.specs.Counts.{recoveryCost}
+use Rattle.matrix.specs.Repair.{helping, equations}
 use Rattle.share.specs.Share.{shareOf}
 use Rattle.share.specs.Calls.{noHead, headFor, Judges}
 

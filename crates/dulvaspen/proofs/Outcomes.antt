@@ -5,9 +5,9 @@ use Prim.Native.Nat.{ℕ}
 use lib.ListN.{length}
 use Rattle.group.specs.declared.Group.{Group}
 use Rattle.group.specs.Answers.{ifFine}
-use Rattle.store.specs.Counts.{recoveryCount, repairCount}
-use Rattle.store.specs.Calls.{recoverRefusal, repairRefusal}
-use Rattle.store.proofs.Outcomes.{one-recovered, one-repaired}
+use Rattle.matrix.specs.Counts.{recoveryCount, repairCount}
+use Rattle.rebuilding.specs.Calls.{recoverRefusal, repairRefusal}
+use Rattle.rebuilding.proofs.Outcomes.{one-recovered, one-repaired}
 use Rattle.share.proofs.Judgments.{not-share-and-beginning, one-head, one-letters}
 use Rattle.dulvaspen.specs.Exports.{Tells, Fills, Recovers, Repairs}
 use Rattle.dulvaspen.specs.Shares.{six, JudgesShare, ReadsShare}

@@ -7,7 +7,8 @@ use Rattle.group.specs.declared.Refusal.{Refusal}
 use Rattle.group.specs.declared.Answer.{Answer}
 use Rattle.group.specs.Answers.{numberOf, valueOf, ifFine, Answers}
 use Rattle.group.proofs.Refusals.{numbered, if-refused}
-use Rattle.store.specs.Calls.{Called, Recovered, Repaired}
+use Rattle.nodes.specs.Calls.{Called}
+use Rattle.rebuilding.specs.Calls.{Recovered, Repaired}
 use Rattle.dulvaspen.specs.Exports.{Tells, Fills, Recovers, Repairs}
 
 -- a value stands in the lent number

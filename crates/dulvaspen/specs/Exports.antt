@@ -6,10 +6,10 @@ use lib.ListN.{length}
 use Rattle.letters.specs.Algebra.{xors}
 use Rattle.group.specs.declared.Group.{Group}
 use Rattle.group.specs.Answers.{ifFine}
-use Rattle.store.specs.Pieces.{reading}
-use Rattle.store.specs.Repair.{equations}
-use Rattle.store.specs.Counts.{recoveryCount, repairCount}
-use Rattle.store.specs.Calls.{recoverRefusal, repairRefusal}
+use Rattle.matrix.specs.Pieces.{reading}
+use Rattle.matrix.specs.Repair.{equations}
+use Rattle.matrix.specs.Counts.{recoveryCount, repairCount}
+use Rattle.rebuilding.specs.Calls.{recoverRefusal, repairRefusal}
 
 -- the group of these numbers
 abbrev pub groupOf : ℕ → ℕ → ℕ → ℕ → Group

@@ -6,9 +6,9 @@ ghost use lib.ListN.{length};
 ghost use Rattle.letters.specs.Algebra.{xors};
 ghost use Rattle.shifts.specs.Rule.{t};
 ghost use Rattle.group.specs.Lengths.{packetStart};
-ghost use Rattle.store.specs.Calls.{encodeRefusal, pieceRefusal, entryRefusal, helpRefusal};
-ghost use Rattle.store.specs.Matrix.{entryNumber, packets as product};
-ghost use Rattle.store.specs.Repair.{helping};
+ghost use Rattle.nodes.specs.Calls.{encodeRefusal, pieceRefusal, entryRefusal, helpRefusal};
+ghost use Rattle.matrix.specs.Matrix.{entryNumber, packets as product};
+ghost use Rattle.matrix.specs.Repair.{helping};
 ghost use Rattle.dulvaspen.specs.Exports.{groupOf, Tells, Fills, Recovers, Repairs};
 
 // A node's packets from the file. Refusals: 1, 2, 3, 5 for the file, 6 for the packets.

@@ -1,21 +1,11 @@
 // Every length of a group whose numbers are in range.
 use crate::Group;
 ghost use mathlib.Core.Path.{_≡_};
-ghost use Prim.Native.Nat.{min, _+_, _≤_};
+ghost use Prim.Native.Nat.{_+_, _≤_};
 ghost use Rattle.shifts.specs.Rule.{t};
 ghost use Rattle.shifts.specs.Table.{Table};
 ghost use Rattle.group.specs.Lengths.{sequences, fileLetters, packetLength, packetStart, nodeLetters, repairLetters, shareBytes};
 ghost use Rattle.group.specs.Ranges.{InRange, NodeOf};
-
-// The lesser of two lengths.
-pub fn lesser(a: usize, b: usize) -> usize
-    ensures { λ r. ⌜ r ≡ min a b ⌝ }
-{
-    if a < b {
-        return a;
-    }
-    b
-}
 
 // B, the sequences of a file.
 pub fn sequences_of(g: Group) -> usize

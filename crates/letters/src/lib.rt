@@ -2,7 +2,7 @@
 pub mod moving;
 
 ghost use mathlib.Core.Path.{_≡_};
-ghost use Prim.Native.Nat.{_+_, _≤_};
+ghost use Prim.Native.Nat.{_+_, _≤_, min};
 ghost use lib.ListN.{length, take, drop};
 ghost use Rattle.letters.specs.Algebra.{xors};
 ghost use Rattle.letters.specs.Runs.{added};
@@ -37,4 +37,14 @@ pub fn add_within(buffer: &mut [u8], to: usize, from: usize, count: usize) -> us
         i += 1;
     }
     i
+}
+
+// The lesser of two numbers.
+pub fn lesser(a: usize, b: usize) -> usize
+    ensures { λ r. ⌜ r ≡ min a b ⌝ }
+{
+    if a < b {
+        return a;
+    }
+    b
 }

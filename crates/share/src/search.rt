@@ -2,7 +2,6 @@
 use crate::Head;
 use crate::records;
 use crate::standing;
-use group::lengths;
 ghost use mathlib.Core.Path.{_≡_};
 ghost use Prim.Native.Nat.{_≤_, _<_};
 ghost use lib.ListN.{length};
@@ -23,7 +22,7 @@ fn letters_after(letters: usize, nth: usize, offset: usize) -> usize
     if records::blocks_of(letters) < nth {
         return 0;
     }
-    lengths::lesser(
+    letters::lesser(
         letters - (nth - 1) * records::BLOCK_LETTERS,
         records::BLOCK_LETTERS,
     )
@@ -58,7 +57,7 @@ fn next_tested(
     ensures { λ r. ⌜ Skips (now (share .entry)) letters nth start at end r ⌝ }
 {
     let count = letters_after(letters, nth, at - start);
-    let past = lengths::lesser(at + 1 + count, end);
+    let past = letters::lesser(at + 1 + count, end);
     if count == 0 {
         return past;
     }
@@ -73,7 +72,7 @@ fn past_full_blocks(share: &[u8], letters: usize, r: usize) -> usize
         return r;
     }
     let whole = (share.len() - records::HEAD_SIZE) / records::BLOCK_SIZE;
-    let most = lengths::lesser(whole, letters / records::BLOCK_LETTERS);
+    let most = letters::lesser(whole, letters / records::BLOCK_LETTERS);
     let mut e = r;
     while e < most {
         if share[records::HEAD_SIZE + e * records::BLOCK_SIZE] != records::KIND_FULL {
@@ -94,7 +93,7 @@ pub fn first_wrong(share: &[u8], head: Head, letters: usize) -> usize
     let mut nth = 0;
     'records: while at < share.len() {
         let start = at;
-        let end = lengths::lesser(start + records::record_size(nth), share.len());
+        let end = letters::lesser(start + records::record_size(nth), share.len());
         while at < end {
             if !standing::stands_in(head, letters, nth, at - start, share[at]) {
                 break 'records;

@@ -1,9 +1,7 @@
-// The store: a node's packets, the pieces that it sends, recovery from k nodes and repair from d.
-pub mod encoding;
-mod entries;
-pub mod helping;
-pub mod pieces;
-pub mod recovery;
-pub mod repairing;
-mod rows;
-mod windows;
+// The store: every call of the repairing code under one roof. A node's packets and what it sends are made in `nodes`, and what comes back
+// is made in `rebuilding`.
+pub use nodes::encoding;
+pub use nodes::helping;
+pub use nodes::pieces;
+pub use rebuilding::recovery;
+pub use rebuilding::repairing;

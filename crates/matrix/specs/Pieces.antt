@@ -1,0 +1,40 @@
+-- The pieces that k nodes send, and the collector's buffer: document 01's "Reading k nodes and recovery".
+use mathlib.Core.Path.{_≡_}
+use mathlib.Core.List.{List}
+use Prim.Native.Nat.{ℕ, _+_, _≤_}
+use lib.ListN.{length, take, drop}
+use Rattle.letters.specs.Algebra.{Adding}
+use Rattle.shifts.specs.Rule.{t}
+use Rattle.solving.specs.Order.{Falling}
+use Rattle.group.specs.declared.Group.{Group}
+use Rattle.group.specs.Ranges.{InRange}
+use Rattle.group.specs.Lengths.{packetStart}
+use Rattle.sequences.specs.Lists.{run, ranked}
+use Rattle.matrix.specs.Matrix.{asFile, packetLetter}
+
+-- what a node sends as rank v of column u: that part of its packets, letters t(i,v)+1 .. t(i,v)+L of packet u
+unfoldable pub pieceIn : {A : Type 0} → Group → ℕ → ℕ → ℕ → List A → List A
+unfolding packetStart t
+pieceIn g i v u held = take (g .l) (drop (packetStart g i u + t i v) held)
+
+module _ {A : Type 0} (𝓐 : Adding A) (g : Group) (file : List A) (ids : List ℕ) where
+  -- letter p of the piece of rank v and column u
+  unfoldable pub pieceLetter : ℕ → ℕ → ℕ → A
+  unfolding packetLetter ranked t
+  pieceLetter v u p = packetLetter 𝓐 g file (ranked ids v) u (p + t (ranked ids v) v)
+
+  unfoldable pub piece : ℕ → ℕ → List A
+  unfolding run pieceLetter
+  piece v u = run (g .l) (pieceLetter v u)
+
+  -- what reading the k nodes gives: the pieces at their entries, laid out as the file
+  unfoldable pub reading : List A
+  unfolding asFile pieceLetter
+  reading = asFile g pieceLetter
+
+-- Ids that may be read, or that may help: as many as are wanted, of the group, and strictly falling.
+pub record Chosen (g : Group) (wanted : ℕ) (ids : List ℕ) : Type 0 where
+  pub group : InRange g
+  pub many : length ids ≡ wanted
+  pub falling : Falling wanted (ranked ids)
+  pub known : (v : ℕ) → 1 ≤ v → v ≤ wanted → ranked ids v ≤ g .n

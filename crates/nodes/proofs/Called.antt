@@ -1,0 +1,112 @@
+-- What a refused call and one that is not refused leave.
+use mathlib.Core.Path.{_≡_, refl, sym, ap₂, _∙_}
+use mathlib.Core.Bool.{not}
+use mathlib.Core.List.{List}
+use Prim.Native.Nat.{ℕ, zero, suc, _+_, _≤_}
+use native.Mathlib.Omega.{arith}
+use lib.Dec.{eqb}
+use borrow.Author.Tests.{eqb-true, eqb-false, not-true, le-leb, ne-eqb}
+use Rattle.letters.specs.Places.{both}
+use Rattle.group.specs.declared.Group.{Group}
+use Rattle.group.specs.declared.Refusal.{Refusal}
+use Rattle.group.specs.declared.Answer.{Answer}
+use Rattle.group.specs.Answers.{refusalNumber, unless, first}
+use Rattle.group.specs.Ranges.{between, InRange, groupRefusal, nodeRefusal}
+use Rattle.shifts.specs.Rule.{t}
+use Rattle.group.specs.Lengths.{packetStart, packetLength, nodeLetters}
+use Rattle.group.proofs.Sizes.{packet-fits, node-at-most}
+use Rattle.group.proofs.Refusals.{numbered, refuses, gives, first-none, first-fine, unless-none, both-true}
+use Rattle.group.proofs.InRange.{between-true, in-range, node-of, of-node}
+use Rattle.nodes.specs.Calls.{Called, helperRefusal, placeRefusal, pieceRefusal, entryRefusal}
+use Rattle.nodes.specs.Steps.{Helper}
+use Rattle.matrix.specs.Matrix.{Free}
+use Rattle.matrix.proofs.Product.{shift-rises}
+
+pub call-refused :
+    (r : Refusal) (q v : ℕ) (right before : List ℕ) → refusalNumber r ≡ q → Called q v right before before (Answer.Refused r)
+call-refused r zero v right before e = absurd (numbered r e)
+call-refused r (suc q) v right before e = record { answer = refuses r (suc q) v e; holds = refl }
+
+pub call-fine :
+    (q w v : ℕ) (right before after : List ℕ) → q ≡ 0 → w ≡ v → after ≡ right → Called q v right before after (Answer.Value w)
+call-fine zero w v right before after e h is = record { answer = gives zero w v refl h; holds = is }
+call-fine (suc q) w v right before after e h is = absurd (omega arith)
+
+-- two lengths that are both as wanted
+pub exact-lengths : (a wa b wb : ℕ) → first (unless (eqb a wa) 5) (unless (eqb b wb) 6) ≡ 0 → (a ≡ wa) × (b ≡ wb)
+exact-lengths a wa b wb e =
+    let w = first-none (unless (eqb a wa) 5) (unless (eqb b wb) 6) e in (
+      eqb-true a wa (unless-none (eqb a wa) 5 (λ q. omega arith) (w .0)),
+      eqb-true b wb (unless-none (eqb b wb) 6 (λ q. omega arith) (w .1)),
+    )
+
+-- where the checks before refuse nothing, the refusals on lengths are what comes out
+pub lengths-after :
+    (q a wa b wb A B : ℕ) → q ≡ 0 → wa ≡ A → wb ≡ B
+    → first (unless (eqb a wa) 5) (unless (eqb b wb) 6) ≡ first q (first (unless (eqb a A) 5) (unless (eqb b B) 6))
+lengths-after q a wa b wb A B z ea eb =
+    ap₂ (λ m n. first (unless (eqb a m) 5) (unless (eqb b n) 6)) ea eb ∙ sym (first-fine q (first (unless (eqb a A) 5) (unless (eqb b B) 6)) z)
+
+-- a helper that no check refuses, and the other way round
+pub helper-of : (g : Group) (lost helper rank : ℕ) → helperRefusal g lost helper rank ≡ 0 → Helper g lost helper rank
+unfolding helperRefusal
+helper-of g lost helper rank e =
+    let w = first-none (nodeRefusal g lost) (first (unless (both (between 1 (g .n) helper) (between 1 (g .d) rank)) 3) (unless (not (eqb helper lost)) 4)) e in
+    let v = first-none (unless (both (between 1 (g .n) helper) (between 1 (g .d) rank)) 3) (unless (not (eqb helper lost)) 4) (w .1) in
+    let n = node-of g lost (w .0) in
+    let b = both-true (between 1 (g .n) helper) (between 1 (g .d) rank) (unless-none (both (between 1 (g .n) helper) (between 1 (g .d) rank)) 3 (λ q. omega arith) (v .0)) in
+    let h = between-true 1 (g .n) helper (b .0) in
+    let r = between-true 1 (g .d) rank (b .1) in
+    record {
+      node = n;
+      other = record { group = n .group; low = h .0; high = h .1 };
+      rank-low = r .0;
+      rank-high = r .1;
+      apart = eqb-false helper lost (not-true (eqb helper lost) (unless-none (not (eqb helper lost)) 4 (λ q. omega arith) (v .1)));
+    }
+
+pub of-helper : (g : Group) (lost helper rank : ℕ) → Helper g lost helper rank → helperRefusal g lost helper rank ≡ 0
+unfolding helperRefusal
+of-helper g lost helper rank r =
+    simp (
+      of-node g lost (r .node),
+      le-leb 1 helper (r .other .low),
+      le-leb helper (g .n) (r .other .high),
+      le-leb 1 rank (r .rank-low),
+      le-leb rank (g .d) (r .rank-high),
+      ne-eqb helper lost (r .apart),
+    )
+
+-- an entry that the check lets through is a free one
+pub place-of : (g : Group) (rank column : ℕ) → InRange g → placeRefusal g rank column ≡ 0 → Free g rank column
+unfolding placeRefusal
+place-of g rank column r e =
+    let b = both-true (between 1 (g .k) rank) (between rank (g .d) column) (unless-none (both (between 1 (g .k) rank) (between rank (g .d) column)) 3 (λ q. omega arith) e) in
+    let v = between-true 1 (g .k) rank (b .0) in
+    let u = between-true rank (g .d) column (b .1) in
+    record { group = r; row = v .0; within = u .0; upper = v .1; column = u .1 }
+
+pub of-place : (g : Group) (rank column : ℕ) → Free g rank column → placeRefusal g rank column ≡ 0
+unfolding placeRefusal
+of-place g rank column f =
+    simp (le-leb 1 rank (f .row), le-leb rank (g .k) (f .upper), le-leb rank column (f .within), le-leb column (g .d) (f .column))
+
+-- and so of the whole check of an entry
+pub entry-of : (g : Group) (rank column : ℕ) → entryRefusal g rank column ≡ 0 → Free g rank column
+unfolding entryRefusal
+entry-of g rank column e =
+    let w = first-none (groupRefusal g) (placeRefusal g rank column) e in
+    place-of g rank column (in-range g (w .0)) (w .1)
+
+-- a piece that is not refused lies within the packets, which have at most 64,815 letters
+pub piece-fits :
+    (g : Group) (node rank column held : ℕ) → pieceRefusal g node rank column held ≡ 0
+    → (packetStart g node column + t node rank + g .l ≤ held) × (held ≤ 64815)
+unfolding pieceRefusal packetLength
+piece-fits g node rank column held e =
+    let w = first-none (nodeRefusal g node) (first (placeRefusal g rank column) (unless (eqb held (nodeLetters g node)) 5)) e in
+    let v = first-none (placeRefusal g rank column) (unless (eqb held (nodeLetters g node)) 5) (w .1) in
+    let n = node-of g node (w .0) in
+    let f = place-of g rank column (n .group) (v .0) in
+    let same = eqb-true held (nodeLetters g node) (unless-none (eqb held (nodeLetters g node)) 5 (λ q. omega arith) (v .1)) in
+    (omega (arith, packet-fits g node n column (omega arith) (omega arith), shift-rises node rank (g .d) (omega arith) (omega arith) (omega arith)), omega (arith, node-at-most g node n))

@@ -1,0 +1,3 @@
+-- Laws, and why the functions keep their contracts.
+pub mod Called
+pub mod Outcomes

@@ -1,0 +1,70 @@
+-- What a refused repair and one that is not refused leave.
+use mathlib.Core.Path.{_≡_, refl, sym, subst, _∙_}
+use mathlib.Core.List.{List}
+use Prim.Native.Nat.{ℕ}
+use native.Mathlib.Omega.{arith}
+use lib.ListN.{length}
+use Rattle.letters.specs.Algebra.{xors}
+use Rattle.solving.specs.System.{part, sequence}
+use Rattle.solving.specs.Solver.{Solved}
+use Rattle.shifts.specs.Rule.{t}
+use Rattle.group.specs.declared.Group.{Group}
+use Rattle.group.specs.declared.Refusal.{Refusal}
+use Rattle.group.specs.declared.Answer.{Answer}
+use Rattle.group.specs.Answers.{refusalNumber, first}
+use Rattle.group.specs.Ranges.{nodeRefusal, idsRefusal}
+use Rattle.group.specs.Lengths.{nodeLetters, repairLetters}
+use Rattle.group.proofs.InRange.{node-of}
+use Rattle.group.proofs.Refusals.{first-none, numbered, refuses, gives, if-refused, if-fine}
+use Rattle.matrix.specs.Repair.{equations}
+use Rattle.matrix.specs.Counts.{repairCount}
+use Rattle.rebuilding.specs.Calls.{apartRefusal, helpersRefusal, repairRefusal, Repaired}
+use Rattle.rebuilding.specs.Steps.Checked.{Helpers}
+use Rattle.sequences.specs.Steps.Rows.{RowsOf}
+use Rattle.matrix.proofs.ChosenIds.{chosen-of}
+use Rattle.matrix.proofs.ChosenRanks.{ranks}
+use Rattle.sequences.proofs.Charted.{charted-part, charted-additions}
+use Rattle.matrix.proofs.Reading.{shifts}
+use Rattle.matrix.proofs.Rebuilt.{same-letters}
+use Rattle.sequences.proofs.Sequences.{is-runs}
+
+pub repair-refused :
+    (g : Group) (lost : ℕ) (helpers before : List ℕ) (r : Refusal) → refusalNumber r ≡ repairRefusal g lost helpers (length before)
+    → Repaired g lost helpers before before (Answer.Refused r)
+repair-refused g lost helpers before r e =
+    record {
+      answer = refuses r (repairRefusal g lost helpers (length before)) (repairCount g lost helpers before) e;
+      same-length = refl;
+      holds =
+          if-refused (repairRefusal g lost helpers (length before)) (equations xors g lost helpers before) before (λ z. numbered r (e ∙ z));
+    }
+
+pub repair-fine :
+    (g : Group) (lost : ℕ) (helpers before after rows : List ℕ) (n count : ℕ) → Helpers g lost helpers → length before ≡ nodeLetters g lost
+    → repairRefusal g lost helpers (length before) ≡ 0 → n ≡ repairLetters g lost → RowsOf t helpers rows → Solved (g .d) n rows before after count
+    → Repaired g lost helpers before after (Answer.Value count)
+unfolding equations repairCount
+repair-fine g lost helpers before after rows n count h long e size r solved =
+    let s = subst (λ m. Solved (g .d) m rows before after count) size solved in
+    record {
+      answer =
+          gives (repairRefusal g lost helpers (length before)) count (repairCount g lost helpers after) e
+          (s .counted ∙ charted-additions t helpers rows r (g .d) (ranks g (g .d) helpers (h .chosen) (omega arith)) (g .d) (omega arith) (omega arith) (repairLetters g lost) (sequence 0 after (repairLetters g lost)));
+      same-length = s .same-length;
+      holds =
+          if-fine (repairRefusal g lost helpers (length before)) (equations xors g lost helpers after) after e
+          ∙ sym
+          (is-runs 0 (g .d) (repairLetters g lost) (part xors (g .d) (shifts helpers) (sequence 0 after (repairLetters g lost))) before
+          (long ∙ same-letters g lost)
+          (λ a p la ha lp hp.
+          sym (s .parts a p la ha lp hp)
+          ∙ charted-part t helpers rows r (g .d) (ranks g (g .d) helpers (h .chosen) (omega arith)) (g .d) (omega arith) (omega arith) (sequence 0 after (repairLetters g lost)) a p la ha));
+    }
+
+pub helpers-of : (g : Group) (lost : ℕ) (helpers : List ℕ) → helpersRefusal g lost helpers ≡ 0 → Helpers g lost helpers
+unfolding helpersRefusal
+helpers-of g lost helpers e =
+    let w = first-none (nodeRefusal g lost) (first (idsRefusal g (g .d) helpers) (apartRefusal lost helpers)) e in
+    let v = first-none (idsRefusal g (g .d) helpers) (apartRefusal lost helpers) (w .1) in
+    let n = node-of g lost (w .0) in
+    record { node = n; chosen = chosen-of g (g .d) helpers (n .group) (v .0); fine = e }

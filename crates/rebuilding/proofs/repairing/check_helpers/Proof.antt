@@ -1,0 +1,31 @@
+-- `repairing::check_helpers` meets its contract: 1, 2 and 3 of the lost node come first.
+use Rattle.group.proofs.InRange.{node-of}
+use Rattle.group.proofs.Refusals.{fine, passed-on}
+use Rattle.rebuilding.specs.Calls.{helpersRefusal}
+use borrow.Author.Needs.{needs}
+use Rattle.rebuilding.proofs.repairing.check_helpers.Statement.{statement}
+use Rattle.rebuilding.proofs.repairing.check_helpers.Tie as tie
+
+node-requires : tie.Need-node-requires
+node-requires c κs = search needs
+
+enum-known-refusal : tie.Need-enum-known-refusal
+enum-known-refusal c = search needs
+
+enum-told : tie.Need-enum-told
+enum-told c = search needs
+
+check-others-requires : tie.Need-check-others-requires
+check-others-requires c κs = node-of _ _ (fine _ _ (c .enum-told .given .1) (c .before .before .node .ensures))
+
+returns : tie.Need-returns
+unfolding helpersRefusal
+returns c = passed-on _ _ _ _ (c .before .refusal .given .1) (c .before .before .before .node .ensures)
+
+returns-2 : tie.Need-returns-2
+returns-2 c = search needs
+
+pub check-helpers-spec : {M : Type 1} → statement M
+check-helpers-spec =
+    tie.close
+    (tie.spec node-requires enum-known-refusal enum-told check-others-requires returns returns-2)

@@ -1,0 +1,51 @@
+-- What each call answers, and what it leaves in each lent buffer, whatever comes in.
+use mathlib.Core.Path.{_≡_}
+use mathlib.Core.List.{List}
+use mathlib.Core.Bool.{not}
+use Prim.Native.Nat.{ℕ}
+use lib.Dec.{eqb}
+use lib.ListN.{length}
+use Rattle.letters.specs.Algebra.{xors}
+use Rattle.group.specs.declared.Group.{Group}
+use Rattle.group.specs.declared.Answer.{Answer}
+use Rattle.group.specs.Answers.{unless, first, ifFine, Answers}
+use Rattle.group.specs.Ranges.{among, groupRefusal, nodeRefusal, idsRefusal}
+use Rattle.group.specs.Lengths.{fileLetters, nodeLetters}
+use Rattle.matrix.specs.Repair.{equations}
+use Rattle.matrix.specs.Pieces.{reading}
+use Rattle.matrix.specs.Counts.{recoveryCount, repairCount}
+
+-- recover: 1, 2, 3 for an id or the number of ids, 4
+unfoldable pub readersRefusal : Group → List ℕ → ℕ
+readersRefusal g ids = first (groupRefusal g) (idsRefusal g (g .k) ids)
+
+-- and then 5 for the buffer
+unfoldable pub recoverRefusal : Group → List ℕ → ℕ → ℕ
+unfolding readersRefusal
+recoverRefusal g ids buffer = first (readersRefusal g ids) (unless (eqb buffer (fileLetters g)) 5)
+
+-- reading what the buffer holds at exit gives what it held at entry, and the count is what that is worth; a refused call leaves it as it was
+pub record Recovered (g : Group) (ids before after : List ℕ) (r : Answer) : Type 0 where
+  pub answer : Answers r (recoverRefusal g ids (length before)) (recoveryCount g ids after)
+  pub same-length : length after ≡ length before
+  pub holds : ifFine (recoverRefusal g ids (length before)) (reading xors g after ids) after ≡ before
+
+-- repair: 4 for a lost node that is one of its helpers
+unfoldable pub apartRefusal : ℕ → List ℕ → ℕ
+apartRefusal lost helpers = unless (not (among lost helpers)) 4
+
+-- 1, 2, 3 for an id or the number of helpers, 4
+unfoldable pub helpersRefusal : Group → ℕ → List ℕ → ℕ
+unfolding apartRefusal
+helpersRefusal g lost helpers = first (nodeRefusal g lost) (first (idsRefusal g (g .d) helpers) (apartRefusal lost helpers))
+
+-- and then 5 for the buffer
+unfoldable pub repairRefusal : Group → ℕ → List ℕ → ℕ → ℕ
+unfolding helpersRefusal
+repairRefusal g lost helpers buffer = first (helpersRefusal g lost helpers) (unless (eqb buffer (nodeLetters g lost)) 5)
+
+-- what the buffer holds at exit solves the d equations for what it held at entry, and the count is what that is worth; a refused call leaves it as it was
+pub record Repaired (g : Group) (lost : ℕ) (helpers before after : List ℕ) (r : Answer) : Type 0 where
+  pub answer : Answers r (repairRefusal g lost helpers (length before)) (repairCount g lost helpers after)
+  pub same-length : length after ≡ length before
+  pub holds : ifFine (repairRefusal g lost helpers (length before)) (equations xors g lost helpers after) after ≡ before

@@ -1,0 +1,3 @@
+-- What comes back: the file from k nodes, a lost node from d.
+pub mod Calls
+pub mod Steps

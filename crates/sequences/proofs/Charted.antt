@@ -1,0 +1,86 @@
+-- Rows of shifts of some nodes are what the solver wants, under any rule with refined increasing differences: falling ids give them their order.
+use mathlib.Core.Path.{_≡_, refl, sym, ap, ap₂, _∙_}
+use mathlib.Core.List.{List}
+use Prim.Native.Nat.{ℕ, _+_, _-_, _*_, _/_, _%_, _^_, _≤_}
+use native.Mathlib.Omega.{arith}
+use lib.ListN.{length, getD}
+use Rattle.letters.specs.Algebra.{xors, counts, sum}
+use Rattle.letters.specs.Worth.{worthOf}
+use Rattle.letters.proofs.Sums.{sum-same}
+use Rattle.shifts.specs.Rule.{ShiftRule, Refined}
+use Rattle.solving.specs.System.{part}
+use Rattle.solving.specs.Order.{Falling, Ordered, ruled}
+use Rattle.solving.specs.Count.{taken, ofEquation, additions, other, within}
+use Rattle.solving.specs.Solver.{shiftIn, Solvable}
+use Rattle.solving.proofs.Order.{falling-ordered, ordered-same, ordered-fewer}
+use Rattle.solving.proofs.System.{part-shifts}
+use Rattle.sequences.specs.Lists.{ranked}
+use Rattle.sequences.specs.Steps.Rows.{RowsOf}
+
+-- the worth of the additions reads the shifts and the sequences of the ranks 1..s alone
+pub additions-same :
+    (s n : ℕ) (u u′ : ℕ → ℕ → ℕ) (x x′ : ℕ → ℕ → ℕ) → ((b a : ℕ) → 1 ≤ b → b ≤ s → 1 ≤ a → a ≤ s → u b a ≡ u′ b a)
+    → ((a p : ℕ) → 1 ≤ a → a ≤ s → x a p ≡ x′ a p) → additions s n u x ≡ additions s n u′ x′
+unfolding additions ofEquation taken
+additions-same s n u u′ x x′ eu ex =
+    sum-same counts s (λ b. sum counts n (λ p. ofEquation s n u x b p)) (λ b. sum counts n (λ p. ofEquation s n u′ x′ b p))
+    (λ b lb hb.
+    sum-same counts n (λ p. ofEquation s n u x b p) (λ p. ofEquation s n u′ x′ b p)
+    (λ p lp hp.
+    sum-same counts s (λ a. taken n u x b p a) (λ a. taken n u′ x′ b p a)
+    (λ a la ha.
+    ap (λ q. other a b (within n q (worthOf (x a q)))) (ap₂ (λ m k. (p + m) - k) (eu b b lb hb lb hb) (eu b a lb hb la ha))
+    ∙ ap (λ z. other a b (within n ((p + u′ b b) - u′ b a) (worthOf z))) (ex a ((p + u′ b b) - u′ b a) la ha))))
+
+-- So many ids that the solver can take under a rule: they count from 1 and fall, and their shifts are small.
+pub record Ranks (rule : ShiftRule) (wanted : ℕ) (ids : List ℕ) : Type 0 where
+  pub refined : Refined rule
+  pub many : length ids ≡ wanted
+  pub few : wanted ≤ 16
+  pub falling : Falling wanted (ranked ids)
+  pub small : (b a : ℕ) → 1 ≤ b → b ≤ wanted → 1 ≤ a → a ≤ wanted → rule (ranked ids b) a ≤ 65535
+
+module _ (rule : ShiftRule) (ids rows : List ℕ) (r : RowsOf rule ids rows) where
+  pub rows-shift : (b a : ℕ) → 1 ≤ b → b ≤ length ids → 1 ≤ a → a ≤ 16 → shiftIn rows b a ≡ rule (ranked ids b) a
+  unfolding shiftIn ranked
+  rows-shift b a lb hb la ha =
+      r .shifts ((b - 1) * 16 + (a - 1)) (omega arith) ∙ ap₂ (λ q m. rule (getD ids q 0) m) row column
+    where
+      row : ((b - 1) * 16 + (a - 1)) / 16 ≡ b - 1
+      row = omega arith
+
+      column : ((b - 1) * 16 + (a - 1)) % 16 + 1 ≡ a
+      column = omega arith
+
+  module _ (wanted : ℕ) (ranks : Ranks rule wanted ids) (s : ℕ) (some : 1 ≤ s) (fits : s ≤ wanted) where
+    -- in the first s rows and columns
+    same : (b a : ℕ) → 1 ≤ b → b ≤ s → 1 ≤ a → a ≤ s → shiftIn rows b a ≡ ruled rule (ranked ids) b a
+    same b a lb hb la ha = rows-shift b a lb (omega (arith, ranks .many)) la (omega (arith, ranks .few))
+
+    order : Ordered wanted (ruled rule (ranked ids))
+    order = falling-ordered rule (ranks .refined) wanted (ranked ids) (ranks .falling)
+
+    pub solvable : (n : ℕ) → 1 ≤ n → n ≤ 2 ^ 32 → Solvable s n rows
+    solvable n ln hn =
+        record {
+          some-letters = ln;
+          few-letters = hn;
+          shifts =
+              record {
+                some-nodes = some;
+                few-nodes = omega (arith, ranks .few);
+                sixteen-rows = r .size;
+                small = λ b a lb hb la ha. omega (arith, same b a lb hb la ha, ranks .small b a lb (omega arith) la (omega arith));
+              };
+          ordered =
+              ordered-same (ruled rule (ranked ids)) (shiftIn rows) s (λ b a lb hb la ha. sym (same b a lb hb la ha))
+              (ordered-fewer (ruled rule (ranked ids)) wanted s fits order);
+        }
+
+    pub charted-part :
+        (x : ℕ → ℕ → ℕ) (b p : ℕ) → 1 ≤ b → b ≤ s → part xors s (shiftIn rows) x b p ≡ part xors s (ruled rule (ranked ids)) x b p
+    charted-part x b p lb hb = part-shifts xors s (shiftIn rows) (ruled rule (ranked ids)) x b p lb hb same
+
+    pub charted-additions :
+        (n : ℕ) (x : ℕ → ℕ → ℕ) → additions s n (shiftIn rows) x ≡ additions s n (ruled rule (ranked ids)) x
+    charted-additions n x = additions-same s n (shiftIn rows) (ruled rule (ranked ids)) x x same (λ a p la ha. refl)

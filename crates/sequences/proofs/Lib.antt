@@ -1,0 +1,9 @@
+-- Laws, and why the functions keep their contracts.
+pub mod Charted
+pub mod LinearRuns
+pub mod Lists
+pub mod PushRun
+pub mod PutBack
+pub mod SeenRuns
+pub mod Sequences
+pub mod Summing

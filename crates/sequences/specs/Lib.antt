@@ -1,0 +1,4 @@
+-- Runs and lists one after another, sums of moved sequences, and what the functions on them leave.
+pub mod Lists
+pub mod Moved
+pub mod Steps
