@@ -1,5 +1,6 @@
 -- Every length, by name.
 use Prim.Native.Nat.{ℕ, _+_, _-_, _*_, _/_}
+use Rattle.letters.specs.Algebra.{counts, sum}
 use Rattle.shifts.specs.Rule.{t}
 use Rattle.group.specs.declared.Group.{Group}
 
@@ -16,9 +17,10 @@ fileLetters g = sequences g * g .l
 unfoldable pub packetLength : Group → ℕ → ℕ → ℕ
 packetLength g i j = g .l + t i (g .d)
 
--- the index at which packet j of node i starts: its packets stand one after another
+-- the index at which packet j of node i starts: its packets stand one after another, so it starts after those before it
 unfoldable pub packetStart : Group → ℕ → ℕ → ℕ
-packetStart g i j = (j - 1) * (g .l + t i (g .d))
+unfolding sum packetLength
+packetStart g i j = sum counts (j - 1) (packetLength g i)
 
 -- T, the letters that node i holds: d(L + t(i,d))
 unfoldable pub nodeLetters : Group → ℕ → ℕ
@@ -27,6 +29,11 @@ nodeLetters g i = g .d * (g .l + t i (g .d))
 -- L', the letters of a repair piece for node f: L + t(f,d)
 unfoldable pub repairLetters : Group → ℕ → ℕ
 repairLetters g f = g .l + t f (g .d)
+
+-- the letters of the buffer in which node f is repaired: d pieces of L'
+unfoldable pub repairBuffer : Group → ℕ → ℕ
+unfolding repairLetters
+repairBuffer g f = g .d * repairLetters g f
 
 -- the blocks of a share of so many letters, the last one filled up with zeros: 64 letters a block
 abbrev pub blocks : ℕ → ℕ

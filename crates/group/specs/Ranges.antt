@@ -1,7 +1,7 @@
 -- The ranges of document 01's "Group numbers and letters", and the refusals that follow from them.
 use mathlib.Core.Bool.{Bool, true, false}
 use mathlib.Core.List.{List, [], _∷_}
-use Prim.Native.Nat.{ℕ, _-_, _+_, _≤_}
+use Prim.Native.Nat.{ℕ, _-_, _+_, _*_, _≤_}
 use lib.Dec.{leb, ltb, eqb}
 use lib.ListN.{length}
 use Rattle.letters.specs.Places.{both}
@@ -12,13 +12,39 @@ use Rattle.group.specs.Answers.{unless, first}
 abbrev pub between : ℕ → ℕ → ℕ → Bool
 between lo hi x = both (leb lo x) (leb x hi)
 
+-- the most nodes, and so the most packets of a node, of which there are fewer
+abbrev pub mostNodes : ℕ
+mostNodes = 16
+
+abbrev pub mostPackets : ℕ
+mostPackets = 15
+
 -- the most letters in a sequence
 abbrev pub longest : ℕ
 longest = 4096
 
+-- the most that a node moves a column, t(16,15)
+abbrev pub widest : ℕ
+widest = 210
+
+-- the longest packet, L + t(i,d), and the most letters of a node
+abbrev pub longestPacket : ℕ
+longestPacket = longest + widest
+
+abbrev pub mostLetters : ℕ
+mostLetters = mostPackets * longestPacket
+
+-- no file has more sequences; the exact most is less
+abbrev pub mostSequences : ℕ
+mostSequences = mostPackets * mostPackets
+
+-- the group of these numbers
+abbrev pub groupOf : ℕ → ℕ → ℕ → ℕ → Group
+groupOf n k d l = record { n = n; k = k; d = d; l = l }
+
 -- n is 3 to 16, and 2 <= k <= d <= n-1
 unfoldable pub numbersInRange : Group → Bool
-numbersInRange g = both (between 3 16 (g .n)) (both (between 2 (g .d) (g .k)) (leb (g .d) (g .n - 1)))
+numbersInRange g = both (between 3 mostNodes (g .n)) (both (between 2 (g .d) (g .k)) (leb (g .d) (g .n - 1)))
 
 -- L is 1 to 4,096
 unfoldable pub lengthInRange : Group → Bool
@@ -74,7 +100,7 @@ outputRefusal wanted has = unless (eqb has wanted) 6
 -- A group whose numbers are all in range.
 pub record InRange (g : Group) : Type 0 where
   pub n-low : 3 ≤ g .n
-  pub n-high : g .n ≤ 16
+  pub n-high : g .n ≤ mostNodes
   pub k-low : 2 ≤ g .k
   pub k-high : g .k ≤ g .d
   pub d-high : g .d + 1 ≤ g .n

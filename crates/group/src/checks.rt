@@ -26,14 +26,17 @@ pub fn numbers_in_range(g: Group) -> bool
     g.d <= g.n - 1
 }
 
-// L is 1 to 4,096.
+// The most letters in a sequence.
+pub const LONGEST: usize = 4096;
+
+// L is one of 1..LONGEST.
 pub fn length_in_range(g: Group) -> bool
     ensures { λ r. ⌜ r ≡ lengthInRange g ⌝ }
 {
     if g.l < 1 {
         return false;
     }
-    g.l <= 4096
+    g.l <= LONGEST
 }
 
 // The group's own numbers: refusals 1 and 2.

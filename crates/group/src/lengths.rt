@@ -4,8 +4,8 @@ ghost use mathlib.Core.Path.{_≡_};
 ghost use Prim.Native.Nat.{_+_, _≤_};
 ghost use Rattle.shifts.specs.Rule.{t};
 ghost use Rattle.shifts.specs.Table.{Table};
-ghost use Rattle.group.specs.Lengths.{sequences, fileLetters, packetLength, packetStart, nodeLetters, repairLetters, shareBytes};
-ghost use Rattle.group.specs.Ranges.{InRange, NodeOf};
+ghost use Rattle.group.specs.Lengths.{sequences, fileLetters, packetStart, nodeLetters, repairLetters, repairBuffer, shareBytes};
+ghost use Rattle.group.specs.Ranges.{longestPacket, InRange, NodeOf};
 
 // B, the sequences of a file.
 pub fn sequences_of(g: Group) -> usize
@@ -27,7 +27,7 @@ pub fn file(g: Group) -> usize
 pub fn widened_in(table: &[u8], g: Group, node: usize) -> usize
     requires table { ⌜ Table (now table) ⌝ }
     requires node { ⌜ NodeOf g node ⌝ }
-    ensures { λ r. ⌜ (r ≡ g .l + t node (g .d)) × (r ≤ 4321) ⌝ }
+    ensures { λ r. ⌜ (r ≡ g .l + t node (g .d)) × (r ≤ longestPacket) ⌝ }
 {
     g.l + shifts::shift_in(table, node, g.d)
 }
@@ -35,18 +35,10 @@ pub fn widened_in(table: &[u8], g: Group, node: usize) -> usize
 // The same for this alone.
 fn widened(g: Group, node: usize) -> usize
     requires { ⌜ NodeOf g node ⌝ }
-    ensures { λ r. ⌜ (r ≡ g .l + t node (g .d)) × (r ≤ 4321) ⌝ }
+    ensures { λ r. ⌜ (r ≡ g .l + t node (g .d)) × (r ≤ longestPacket) ⌝ }
 {
     let table = shifts::all();
     widened_in(&table, g, node)
-}
-
-// The letters of a packet of a node.
-pub fn packet(g: Group, node: usize, column: usize) -> usize
-    requires { ⌜ (NodeOf g node) × (1 ≤ column) × (column ≤ g .d) ⌝ }
-    ensures { λ r. ⌜ r ≡ packetLength g node column ⌝ }
-{
-    widened(g, node)
 }
 
 // The index at which a packet of a node starts.
@@ -71,6 +63,14 @@ pub fn repair(g: Group, lost: usize) -> usize
     ensures { λ r. ⌜ r ≡ repairLetters g lost ⌝ }
 {
     widened(g, lost)
+}
+
+// The letters of the buffer in which the lost node is repaired: d pieces of L'.
+pub fn repair_buffer(g: Group, lost: usize) -> usize
+    requires { ⌜ NodeOf g lost ⌝ }
+    ensures { λ r. ⌜ r ≡ repairBuffer g lost ⌝ }
+{
+    g.d * repair(g, lost)
 }
 
 // The bytes of a node's share.

@@ -5,7 +5,7 @@ pub mod lengths;
 ghost use mathlib.Core.Path.{_≡_};
 ghost use Rattle.group.specs.Answers.{Answers, refusalNumber, numberOf};
 ghost use Rattle.group.specs.Lengths.{fileLetters, nodeLetters, repairLetters, shareBytes};
-ghost use Rattle.group.specs.Ranges.{groupRefusal, nodeRefusal};
+ghost use Rattle.group.specs.Ranges.{groupOf, groupRefusal, nodeRefusal};
 
 // A group's numbers, any numbers: n nodes, any k of which give a batch back and any d of which rebuild a lost one,
 // and l letters in a sequence. Which numbers are allowed is what `checks` tells.
@@ -14,6 +14,13 @@ pub struct Group {
     pub k: usize,
     pub d: usize,
     pub l: usize,
+}
+
+// The group of these numbers. All groups are made here.
+pub fn of(n: usize, k: usize, d: usize, l: usize) -> Group
+    ensures { λ r. ⌜ r ≡ groupOf n k d l ⌝ }
+{
+    Group { n, k, d, l }
 }
 
 // Why a call is turned down. `refusalNumber` in specs/ gives document 01's number for each.

@@ -141,6 +141,12 @@ sum-at-most zero b f h = omega arith
 sum-at-most (suc n) b f h =
     omega (arith, suc-mul n b, sum-at-most n b f (λ i lo hi. h i lo (omega arith)), h (suc n) (omega arith) (omega arith))
 
+-- a sum of equal counts is their product
+pub sum-constant : (n c : ℕ) → sum counts n (λ i. c) ≡ n * c
+unfolding sum
+sum-constant zero c = omega arith
+sum-constant (suc n) c = omega (arith, suc-mul n c, sum-constant n c)
+
 -- a sum of counts is at most another, if each term is
 pub sum-below : (n : ℕ) (f g : ℕ → ℕ) → ((i : ℕ) → 1 ≤ i → i ≤ n → f i ≤ g i) → sum counts n f ≤ sum counts n g
 unfolding sum

@@ -4,7 +4,7 @@ use Prim.Native.Nat.{ℕ, _+_, _-_, _*_, _≤_, _<_, min, max}
 use native.Mathlib.Nat.{add-mul, one-mul, mul-le-mul}
 use native.Mathlib.Omega.{arith}
 use Rattle.group.specs.declared.Group.{Group}
-use Rattle.group.specs.Ranges.{InRange}
+use Rattle.group.specs.Ranges.{longest, InRange}
 use Rattle.group.specs.Lengths.{fileLetters}
 use Rattle.group.proofs.Sizes.{sequences-at-most}
 use Rattle.matrix.specs.Matrix.{before, entryNumber, entryStart}
@@ -36,11 +36,11 @@ module _ (g : Group) (r : InRange g) (v u : ℕ) (lv : 1 ≤ v) (lu : 1 ≤ u) w
       (omega (arith, ap (before (g .k)) high, ap (before (g .k)) high′, before-next (g .k) v (omega arith) lv))
 
   -- no start is far on, also one row below the last
-  pub start-at-most : v ≤ g .d + 1 → u ≤ g .d + 1 → entryStart g v u ≤ 1048576
+  pub start-at-most : v ≤ g .d + 1 → u ≤ g .d + 1 → entryStart g v u ≤ 256 * longest
   unfolding entryStart entryNumber
   start-at-most hv hu =
       let reach : max v u + (g .d + 1 - max v u) ≡ g .d + 1 = omega arith in
-      mul-le-mul {n₂ = 256} {m₂ = 4096}
+      mul-le-mul {n₂ = 256} {m₂ = longest}
       (omega (arith, before-rises (g .k) (max v u) (g .d + 1 - max v u) (omega arith) (omega arith), ap (before (g .k)) reach, before-all g r, sequences-at-most g r))
       (omega arith)
 

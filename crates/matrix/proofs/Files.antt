@@ -13,7 +13,7 @@ use Rattle.group.specs.Ranges.{InRange}
 use Rattle.group.specs.Lengths.{fileLetters}
 use Rattle.sequences.specs.Lists.{run, joined}
 use Rattle.matrix.specs.Matrix.{before, entryNumber, asFile}
-use Rattle.sequences.proofs.Lists.{Starts, length-joined, getD-joined, ends-within, is-joined}
+use Rattle.sequences.proofs.Lists.{ListStarts, length-joined, getD-joined, ends-within, is-joined}
 use Rattle.sequences.proofs.Sequences.{place-index, length-runs, getD-runs, is-runs}
 use Rattle.matrix.proofs.Columns.{before-first, before-next, before-all}
 
@@ -25,7 +25,7 @@ module _ {A : Type 0} (none : A) (g : Group) (r : InRange g) (f : ℕ → ℕ �
   length-column : (u : ℕ) → length (column u) ≡ min u (g .k) * g .l
   length-column u = length-runs none (min u (g .k)) (g .l) (λ v. f v u)
 
-  columns-start : Starts (g .d) column (λ u. before (g .k) u * g .l)
+  columns-start : ListStarts (g .d) column (λ u. before (g .k) u * g .l)
   columns-start =
       record {
         first = ap (λ m. m * g .l) (before-first (g .k) (omega arith)) ∙ zero-mul (g .l);

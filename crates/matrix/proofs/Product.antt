@@ -4,25 +4,26 @@ use mathlib.Core.Bool.{Bool, true, false, cond}
 use mathlib.Core.List.{List}
 use mathlib.Core.Logic.{⊎-elim}
 use Prim.Native.Nat.{ℕ, _+_, _-_, _*_, _≤_, _<_, min, max}
-use native.Mathlib.Nat.{min-comm, max-comm, add-mul, one-mul, zero-mul, eq-or-lt-of-le}
+use native.Mathlib.Nat.{min-comm, max-comm, eq-or-lt-of-le}
 use native.Mathlib.Omega.{arith}
 use lib.Dec.{leb}
 use lib.ListN.{length, getD}
 use borrow.Author.Tests.{le-leb, lt-leb}
-use Rattle.letters.specs.Algebra.{Adding}
+use Rattle.letters.specs.Algebra.{Adding, counts, sum}
 use Rattle.letters.specs.Places.{letter}
 use Rattle.letters.proofs.Places.{place-cases, letter-inside, letter-zero, letter-above}
-use Rattle.letters.proofs.Sums.{sum-none}
+use Rattle.letters.proofs.Sums.{sum-none, sum-more, sum-none-terms}
 use Rattle.shifts.specs.Rule.{t}
 use Rattle.shifts.proofs.Rule.{refined}
 use Rattle.solving.specs.System.{sequence, Sequences}
 use Rattle.solving.proofs.System as system
 use Rattle.group.specs.declared.Group.{Group}
 use Rattle.group.specs.Lengths.{packetLength, packetStart, nodeLetters}
+use Rattle.group.proofs.Sizes.{packet-start}
 use Rattle.matrix.specs.Matrix.{entryNumber, matrix, packetLetter, packet, packets}
 use Rattle.sequences.specs.Moved.{moved}
 use Rattle.matrix.specs.Repair.{heldLetter}
-use Rattle.sequences.proofs.Lists.{length-run, getD-run, Starts, length-joined, getD-joined}
+use Rattle.sequences.proofs.Lists.{length-run, getD-run, ListStarts, length-joined, getD-joined}
 
 -- the shifts of a node rise with the column
 pub shift-rises : (i u d : ℕ) → 1 ≤ i → 1 ≤ u → u ≤ d → t i u ≤ t i d
@@ -45,20 +46,23 @@ wide-node g i m e = ap (λ n. g .d * n) e
 
 -- one packet ends where the next starts
 pub packet-next : (g : Group) (i j : ℕ) → 1 ≤ j → packetStart g i (j + 1) ≡ packetStart g i j + packetLength g i j
-unfolding packetStart packetLength
+unfolding packetStart
 packet-next g i j lo =
-    ap (λ m. m * (g .l + t i (g .d))) more ∙ add-mul (j - 1) 1 (g .l + t i (g .d)) ∙ ap (λ m. (j - 1) * (g .l + t i (g .d)) + m) (one-mul (g .l + t i (g .d)))
+    ap (λ m. sum counts m (packetLength g i)) more ∙ sum-more counts (j - 1) (packetLength g i) ∙ ap (λ m. sum counts (j - 1) (packetLength g i) + packetLength g i m) back
   where
     more : j + 1 - 1 ≡ j - 1 + 1
     more = omega arith
 
+    back : j - 1 + 1 ≡ j
+    back = omega arith
+
 pub packet-first : (g : Group) (i : ℕ) → packetStart g i 1 ≡ 0
 unfolding packetStart
-packet-first g i = zero-mul (g .l + t i (g .d))
+packet-first g i = sum-none-terms counts (packetLength g i)
 
 pub packet-last : (g : Group) (i : ℕ) → packetStart g i (g .d + 1) ≡ nodeLetters g i
-unfolding packetStart nodeLetters
-packet-last g i = ap (λ m. m * (g .l + t i (g .d))) back
+unfolding nodeLetters
+packet-last g i = packet-start g i (g .d + 1) ∙ ap (λ m. m * (g .l + t i (g .d))) back
   where
     back : g .d + 1 - 1 ≡ g .d
     back = omega arith
@@ -128,7 +132,7 @@ module _ {A : Type 0} (𝓐 : Adding A) (g : Group) (file : List A) where
       place p lo = omega arith
 
   -- where the packets of a node stand
-  pub packets-start : (i : ℕ) → Starts (g .d) (packet 𝓐 g file i) (packetStart g i)
+  pub packets-start : (i : ℕ) → ListStarts (g .d) (packet 𝓐 g file i) (packetStart g i)
   packets-start i =
       record {
         first = packet-first g i;

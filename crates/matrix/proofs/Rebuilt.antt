@@ -6,6 +6,7 @@ use Prim.Native.Nat.{ℕ, _+_, _-_, _*_, _≤_}
 use native.Mathlib.Omega.{arith}
 use lib.ListN.{length}
 use Rattle.letters.specs.Algebra.{Adding, Letters, sum}
+use Rattle.letters.specs.Places.{letter}
 use Rattle.letters.proofs.Places.{place-cases}
 use Rattle.letters.proofs.Sums.{sum-same, sum-swap}
 use Rattle.shifts.specs.Rule.{t}
@@ -15,7 +16,8 @@ use Rattle.solving.proofs.SomeSolution.{solution, solved, solves}
 use Rattle.solving.proofs.System as system
 use Rattle.group.specs.declared.Group.{Group}
 use Rattle.group.specs.Ranges.{NodeOf}
-use Rattle.group.specs.Lengths.{packetLength, packetStart, nodeLetters, repairLetters}
+use Rattle.group.specs.Lengths.{packetLength, nodeLetters, repairLetters, repairBuffer}
+use Rattle.group.proofs.Sizes.{packet-start}
 use Rattle.sequences.specs.Lists.{run, joined, ranked}
 use Rattle.sequences.specs.Moved.{moved}
 use Rattle.matrix.specs.Matrix.{matrix, packetLetter, packets}
@@ -31,6 +33,10 @@ use Rattle.matrix.proofs.Reading.{shifts, ordered}
 pub same-letters : (g : Group) (i : ℕ) → nodeLetters g i ≡ g .d * repairLetters g i
 unfolding nodeLetters repairLetters
 same-letters g i = refl
+
+pub same-buffer : (g : Group) (f : ℕ) → repairBuffer g f ≡ g .d * repairLetters g f
+unfolding repairBuffer
+same-buffer g f = refl
 
 module _ {A : Type 0} (𝓐 : Adding A) (g : Group) (file : List A) where
   -- r is the sum over the helper's packets moved by the lost node's shifts, and also the sum over the lost node's packets moved by the helper's
@@ -54,8 +60,8 @@ module _ {A : Type 0} (𝓐 : Adding A) (g : Group) (file : List A) where
 
   -- a packet of L' letters is a sequence of them
   stored : (lost : ℕ) (held : List A) (j p : ℕ) → sequence (𝓐 .none) held (repairLetters g lost) j p ≡ heldLetter 𝓐 g lost held j p
-  unfolding sequence heldLetter packetStart packetLength repairLetters
-  stored lost held j p = refl
+  unfolding sequence heldLetter packetLength repairLetters
+  stored lost held j p = ap (λ start. letter (𝓐 .none) held start (repairLetters g lost) p) (sym (packet-start g lost j))
 
   honest-letter :
       (lost helper u p : ℕ) → 1 ≤ lost → 1 ≤ helper

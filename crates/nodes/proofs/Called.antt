@@ -11,7 +11,7 @@ use Rattle.group.specs.declared.Group.{Group}
 use Rattle.group.specs.declared.Refusal.{Refusal}
 use Rattle.group.specs.declared.Answer.{Answer}
 use Rattle.group.specs.Answers.{refusalNumber, unless, first}
-use Rattle.group.specs.Ranges.{between, InRange, groupRefusal, nodeRefusal}
+use Rattle.group.specs.Ranges.{between, mostLetters, InRange, groupRefusal, nodeRefusal}
 use Rattle.shifts.specs.Rule.{t}
 use Rattle.group.specs.Lengths.{packetStart, packetLength, nodeLetters}
 use Rattle.group.proofs.Sizes.{packet-fits, node-at-most}
@@ -98,10 +98,10 @@ entry-of g rank column e =
     let w = first-none (groupRefusal g) (placeRefusal g rank column) e in
     place-of g rank column (in-range g (w .0)) (w .1)
 
--- a piece that is not refused lies within the packets, which have at most 64,815 letters
+-- a piece that is not refused lies within the packets, which are not too many
 pub piece-fits :
     (g : Group) (node rank column held : ℕ) → pieceRefusal g node rank column held ≡ 0
-    → (packetStart g node column + t node rank + g .l ≤ held) × (held ≤ 64815)
+    → (packetStart g node column + t node rank + g .l ≤ held) × (held ≤ mostLetters)
 unfolding pieceRefusal packetLength
 piece-fits g node rank column held e =
     let w = first-none (nodeRefusal g node) (first (placeRefusal g rank column) (unless (eqb held (nodeLetters g node)) 5)) e in

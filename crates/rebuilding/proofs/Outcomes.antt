@@ -10,7 +10,7 @@ use Rattle.letters.specs.Algebra.{bytes, xors}
 use Rattle.group.specs.declared.Group.{Group}
 use Rattle.group.specs.declared.Answer.{Answer}
 use Rattle.group.specs.Answers.{unless, ifFine}
-use Rattle.group.specs.Lengths.{fileLetters, nodeLetters}
+use Rattle.group.specs.Lengths.{fileLetters, repairBuffer}
 use Rattle.group.proofs.Outcomes.{answer-once}
 use Rattle.group.proofs.Refusals.{first-none, unless-none}
 use Rattle.matrix.specs.Pieces.{reading}
@@ -19,7 +19,7 @@ use Rattle.matrix.specs.Counts.{recoveryCount, repairCount}
 use Rattle.rebuilding.specs.Calls.{readersRefusal, recoverRefusal, Recovered, helpersRefusal, repairRefusal, Repaired}
 use Rattle.rebuilding.proofs.RepairCalls.{helpers-of}
 use Rattle.rebuilding.proofs.RecoverCalls.{readers-of}
-use Rattle.matrix.proofs.Rebuilt.{one-repair, same-letters}
+use Rattle.matrix.proofs.Rebuilt.{one-repair, same-buffer}
 use Rattle.matrix.proofs.Theorems.{reading-once}
 
 -- what a buffer may hold at exit, by whether the call was refused
@@ -58,10 +58,10 @@ unfolding repairRefusal
 one-repaired g lost helpers before after after′ size size′ e e′ =
     by-refusal (repairRefusal g lost helpers (length before)) (equations xors g lost helpers) before after after′ e e′
     (λ z same.
-    let w = first-none (helpersRefusal g lost helpers) (unless (eqb (length before) (nodeLetters g lost)) 5) z in
-    let long = eqb-true (length before) (nodeLetters g lost) (unless-none (eqb (length before) (nodeLetters g lost)) 5 (λ q. omega arith) (w .1)) in
-    one-repair bytes g lost helpers (helpers-of g lost helpers (w .0) .chosen) after after′ (size ∙ long ∙ same-letters g lost)
-    (size′ ∙ long ∙ same-letters g lost) same)
+    let w = first-none (helpersRefusal g lost helpers) (unless (eqb (length before) (repairBuffer g lost)) 5) z in
+    let long = eqb-true (length before) (repairBuffer g lost) (unless-none (eqb (length before) (repairBuffer g lost)) 5 (λ q. omega arith) (w .1)) in
+    one-repair bytes g lost helpers (helpers-of g lost helpers (w .0) .chosen) after after′ (size ∙ long ∙ same-buffer g lost)
+    (size′ ∙ long ∙ same-buffer g lost) same)
 
 pub repaired-once :
     (g : Group) (lost : ℕ) (helpers before after after′ : List ℕ) (r r′ : Answer) → Repaired g lost helpers before after r

@@ -19,6 +19,7 @@ use Rattle.solving.specs.Count.{within}
 use Rattle.solving.specs.Solver.{shiftIn}
 use Rattle.solving.proofs.System.{sequences}
 use Rattle.group.specs.declared.Group.{Group}
+use Rattle.group.specs.Ranges.{longest}
 use Rattle.sequences.specs.Lists.{ranked}
 use Rattle.matrix.specs.Matrix.{entryNumber}
 use Rattle.rebuilding.specs.Steps.Recovery.{standing, seenAt, Collected, runWorth, PushedRun, PushedInto, Pushed}
@@ -132,7 +133,7 @@ module _ (g : Group) (ids buffer : List ℕ) (collected : Collected g ids buffer
 
     pub push-done :
         (after : List ℕ) (count : ℕ) → su - sw < g .l → after ≡ added xors buffer (start + (su - sw)) (take (g .l - (su - sw)) (drop from buffer))
-        → count ≡ worth (take (g .l - (su - sw)) (drop from buffer)) → PushedRun g ids u c w buffer after count × (count ≤ 4096)
+        → count ≡ worth (take (g .l - (su - sw)) (drop from buffer)) → PushedRun g ids u c w buffer after count × (count ≤ longest)
     push-done after count reach is worths = (
       run-pushed after count (omega (arith, same-move))
           (is

@@ -13,7 +13,7 @@ use Rattle.group.specs.declared.Refusal.{Refusal}
 use Rattle.group.specs.declared.Answer.{Answer}
 use Rattle.group.specs.Answers.{refusalNumber, first}
 use Rattle.group.specs.Ranges.{nodeRefusal, idsRefusal}
-use Rattle.group.specs.Lengths.{nodeLetters, repairLetters}
+use Rattle.group.specs.Lengths.{repairLetters, repairBuffer}
 use Rattle.group.proofs.InRange.{node-of}
 use Rattle.group.proofs.Refusals.{first-none, numbered, refuses, gives, if-refused, if-fine}
 use Rattle.matrix.specs.Repair.{equations}
@@ -25,7 +25,7 @@ use Rattle.matrix.proofs.ChosenIds.{chosen-of}
 use Rattle.matrix.proofs.ChosenRanks.{ranks}
 use Rattle.sequences.proofs.Charted.{charted-part, charted-additions}
 use Rattle.matrix.proofs.Reading.{shifts}
-use Rattle.matrix.proofs.Rebuilt.{same-letters}
+use Rattle.matrix.proofs.Rebuilt.{same-buffer}
 use Rattle.sequences.proofs.Sequences.{is-runs}
 
 pub repair-refused :
@@ -40,7 +40,7 @@ repair-refused g lost helpers before r e =
     }
 
 pub repair-fine :
-    (g : Group) (lost : ℕ) (helpers before after rows : List ℕ) (n count : ℕ) → Helpers g lost helpers → length before ≡ nodeLetters g lost
+    (g : Group) (lost : ℕ) (helpers before after rows : List ℕ) (n count : ℕ) → Helpers g lost helpers → length before ≡ repairBuffer g lost
     → repairRefusal g lost helpers (length before) ≡ 0 → n ≡ repairLetters g lost → RowsOf t helpers rows → Solved (g .d) n rows before after count
     → Repaired g lost helpers before after (Answer.Value count)
 unfolding equations repairCount
@@ -55,7 +55,7 @@ repair-fine g lost helpers before after rows n count h long e size r solved =
           if-fine (repairRefusal g lost helpers (length before)) (equations xors g lost helpers after) after e
           ∙ sym
           (is-runs 0 (g .d) (repairLetters g lost) (part xors (g .d) (shifts helpers) (sequence 0 after (repairLetters g lost))) before
-          (long ∙ same-letters g lost)
+          (long ∙ same-buffer g lost)
           (λ a p la ha lp hp.
           sym (s .parts a p la ha lp hp)
           ∙ charted-part t helpers rows r (g .d) (ranks g (g .d) helpers (h .chosen) (omega arith)) (g .d) (omega arith) (omega arith) (sequence 0 after (repairLetters g lost)) a p la ha));

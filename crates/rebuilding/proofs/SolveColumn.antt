@@ -23,10 +23,11 @@ use Rattle.solving.specs.Solver.{shiftIn, Solved}
 use Rattle.solving.proofs.System.{part-same, index-below}
 use Rattle.shifts.specs.Rule.{t}
 use Rattle.group.specs.declared.Group.{Group}
+use Rattle.group.specs.Ranges.{longest}
 use Rattle.group.specs.Lengths.{fileLetters}
 use Rattle.matrix.specs.Matrix.{before, entryNumber}
 use Rattle.sequences.specs.Steps.Rows.{RowsOf}
-use Rattle.rebuilding.specs.Steps.Recovery.{standing, seenAt, Collected, runWorth, columnWorth, Pushed, Column}
+use Rattle.rebuilding.specs.Steps.Recovery.{entriesMost, columnMost, standing, seenAt, Collected, runWorth, columnWorth, Pushed, Column}
 use Rattle.matrix.proofs.ChosenRanks.{ranks}
 use Rattle.sequences.proofs.Charted.{additions-same, charted-part, charted-additions}
 use Rattle.matrix.proofs.Columns.{before-apart, before-all}
@@ -159,7 +160,7 @@ module _ (g : Group) (ids buffer : List ℕ) (collected : Collected g ids buffer
 
       pub column-done :
           (rows after : List ℕ) (count more : ℕ) → RowsOf t ids rows → Solved s (g .l) rows lent solution count
-          → Pushed g ids u (min (u - 1) (g .k)) middle after more → more ≤ 1048576 → Column g ids u buffer after (count + more)
+          → Pushed g ids u (min (u - 1) (g .k)) middle after more → more ≤ columnMost → Column g ids u buffer after (count + more)
       unfolding columnWorth runWorth
       column-done rows after count more r solved push bound =
           record {
@@ -197,7 +198,7 @@ module _ (g : Group) (ids buffer : List ℕ) (collected : Collected g ids buffer
                   arith,
                   solved .counted,
                   additions-bound s (g .l) (shiftIn rows) (sequence 0 solution (g .l)),
-                  mul-le-mul {n₁ = s} {m₁ = g .l * s} {n₂ = 16} {m₂ = 65536} (omega arith) (mul-le-mul {n₁ = g .l} {m₁ = s} {n₂ = 4096} {m₂ = 16} (omega arith) (omega arith)),
+                  mul-le-mul {n₁ = s} {m₁ = g .l * s} {n₂ = 16} {m₂ = entriesMost} (omega arith) (mul-le-mul {n₁ = g .l} {m₁ = s} {n₂ = longest} {m₂ = 16} (omega arith) (omega arith)),
                 );
           }
         where

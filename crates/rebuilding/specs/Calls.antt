@@ -10,7 +10,7 @@ use Rattle.group.specs.declared.Group.{Group}
 use Rattle.group.specs.declared.Answer.{Answer}
 use Rattle.group.specs.Answers.{unless, first, ifFine, Answers}
 use Rattle.group.specs.Ranges.{among, groupRefusal, nodeRefusal, idsRefusal}
-use Rattle.group.specs.Lengths.{fileLetters, nodeLetters}
+use Rattle.group.specs.Lengths.{fileLetters, repairBuffer}
 use Rattle.matrix.specs.Repair.{equations}
 use Rattle.matrix.specs.Pieces.{reading}
 use Rattle.matrix.specs.Counts.{recoveryCount, repairCount}
@@ -42,7 +42,7 @@ helpersRefusal g lost helpers = first (nodeRefusal g lost) (first (idsRefusal g 
 -- and then 5 for the buffer
 unfoldable pub repairRefusal : Group → ℕ → List ℕ → ℕ → ℕ
 unfolding helpersRefusal
-repairRefusal g lost helpers buffer = first (helpersRefusal g lost helpers) (unless (eqb buffer (nodeLetters g lost)) 5)
+repairRefusal g lost helpers buffer = first (helpersRefusal g lost helpers) (unless (eqb buffer (repairBuffer g lost)) 5)
 
 -- what the buffer holds at exit solves the d equations for what it held at entry, and the count is what that is worth; a refused call leaves it as it was
 pub record Repaired (g : Group) (lost : ℕ) (helpers before after : List ℕ) (r : Answer) : Type 0 where

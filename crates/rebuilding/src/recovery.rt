@@ -9,10 +9,11 @@ ghost use mathlib.Core.Path.{_≡_};
 ghost use Prim.Native.Nat.{_+_, _-_, _*_, _≤_, min};
 ghost use Rattle.shifts.specs.Rule.{t};
 ghost use Rattle.group.specs.Answers.{checkNumber};
+ghost use Rattle.group.specs.Ranges.{longest};
 ghost use Rattle.rebuilding.specs.Calls.{readersRefusal, Recovered};
 ghost use Rattle.rebuilding.specs.Steps.Checked.{Readers};
 ghost use Rattle.sequences.specs.Steps.Rows.{RowsOf};
-ghost use Rattle.rebuilding.specs.Steps.Recovery.{Collected, PushedRun, PushedInto, Pushed, Column, Stage};
+ghost use Rattle.rebuilding.specs.Steps.Recovery.{entriesMost, columnMost, Collected, PushedRun, PushedInto, Pushed, Column, Stage};
 
 // Turns the pieces in `buffer`, laid out as the file, into the file, in place: the one file that has those pieces, for any letters whatever.
 // The answer is the number of letter additions. Refusals: 1, 2, 3 for an id outside 1..n or another number of ids than k,
@@ -79,7 +80,7 @@ fn recover_column(g: Group, ids: &[usize], rows: &[usize], u: usize, buffer: &mu
 fn push_column(g: Group, ids: &[usize], rows: &[usize], u: usize, buffer: &mut [u8]) -> usize
     requires { ⌜ (Collected g (now ids) (now buffer)) × (RowsOf t (now ids) (now rows)) × (1 ≤ u) × (u ≤ g .d) ⌝ }
     ensures { λ r. ⌜ Pushed g (now (ids .entry)) u (min (u - 1) (g .k)) (now (buffer .entry)) (now (buffer .exit)) r ⌝ }
-    ensures bound { λ r. ⌜ r ≤ 1048576 ⌝ }
+    ensures bound { λ r. ⌜ r ≤ columnMost ⌝ }
 {
     let columns = letters::lesser(u - 1, g.k);
     let mut count: usize = 0;
@@ -102,7 +103,7 @@ fn push_into(
 ) -> usize
     requires { ⌜ (Collected g (now ids) (now buffer)) × (RowsOf t (now ids) (now rows)) × (1 ≤ c) × (c + 1 ≤ u) × (c ≤ g .k) × (u ≤ g .d) ⌝ }
     ensures { λ r. ⌜ PushedInto g (now (ids .entry)) u c c (now (buffer .entry)) (now (buffer .exit)) r ⌝ }
-    ensures bound { λ r. ⌜ r ≤ 65536 ⌝ }
+    ensures bound { λ r. ⌜ r ≤ entriesMost ⌝ }
 {
     let mut count: usize = 0;
     let mut w = 0;
@@ -125,7 +126,7 @@ fn push_run(
 ) -> usize
     requires { ⌜ (Collected g (now ids) (now buffer)) × (RowsOf t (now ids) (now rows)) × (1 ≤ w) × (w ≤ c) × (c + 1 ≤ u) × (c ≤ g .k) × (u ≤ g .d) ⌝ }
     ensures { λ r. ⌜ PushedRun g (now (ids .entry)) u c w (now (buffer .entry)) (now (buffer .exit)) r ⌝ }
-    ensures bound { λ r. ⌜ r ≤ 4096 ⌝ }
+    ensures bound { λ r. ⌜ r ≤ longest ⌝ }
 {
     let moved = solving::place::shift_in(rows, w, u) - solving::place::shift_in(rows, w, w);
     if g.l <= moved {

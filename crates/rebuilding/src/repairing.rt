@@ -59,7 +59,7 @@ fn repair_exact(g: Group, lost: usize, helpers: &[usize], buffer: &mut [u8]) -> 
     requires { ⌜ Helpers g lost (now helpers) ⌝ }
     ensures { λ r. ⌜ Repaired g lost (now (helpers .entry)) (now (buffer .entry)) (now (buffer .exit)) r ⌝ }
 {
-    let wanted = group::lengths::node(g, lost);
+    let wanted = group::lengths::repair_buffer(g, lost);
     if buffer.len() != wanted {
         return Answer::Refused(Refusal::Input);
     }

@@ -37,14 +37,14 @@ module _ {A : Type 0} where
       is-run none n f′ (run n f) (length-run n f) (λ q l. getD-run n f none q l ∙ h (q + 1) (omega arith) (omega arith))
 
   -- where each of the lists F 1, F 2, .. starts: each where the one before it ends
-  pub record Starts (n : ℕ) (F : ℕ → List A) (start : ℕ → ℕ) : Type 0 where
+  pub record ListStarts (n : ℕ) (F : ℕ → List A) (start : ℕ → ℕ) : Type 0 where
     pub first : start 1 ≡ 0
     pub next : (j : ℕ) → 1 ≤ j → j ≤ n → start (j + 1) ≡ start j + length (F j)
 
-  starts-fewer : (n : ℕ) (F : ℕ → List A) (start : ℕ → ℕ) → Starts (suc n) F start → Starts n F start
+  starts-fewer : (n : ℕ) (F : ℕ → List A) (start : ℕ → ℕ) → ListStarts (suc n) F start → ListStarts n F start
   starts-fewer n F start s = record { first = s .first; next = λ j lo hi. s .next j lo (omega arith) }
 
-  pub length-joined : (n : ℕ) (F : ℕ → List A) (start : ℕ → ℕ) → Starts n F start → length (joined n F) ≡ start (n + 1)
+  pub length-joined : (n : ℕ) (F : ℕ → List A) (start : ℕ → ℕ) → ListStarts n F start → length (joined n F) ≡ start (n + 1)
   unfolding joined
   length-joined zero F start s = sym (s .first)
   length-joined (suc n) F start s =
@@ -53,7 +53,7 @@ module _ {A : Type 0} where
       ∙ sym (s .next (suc n) (omega arith) (omega arith))
 
   -- no list starts before an earlier one
-  starts-rise : (n : ℕ) (F : ℕ → List A) (start : ℕ → ℕ) → Starts n F start → (j m : ℕ) → 1 ≤ j → j + m ≤ n + 1 → start j ≤ start (j + m)
+  starts-rise : (n : ℕ) (F : ℕ → List A) (start : ℕ → ℕ) → ListStarts n F start → (j m : ℕ) → 1 ≤ j → j + m ≤ n + 1 → start j ≤ start (j + m)
   starts-rise n F start s j zero lo hi = le-of-eq (ap start (sym (add-zero j)))
   starts-rise n F start s j (suc m) lo hi =
       omega
@@ -64,7 +64,7 @@ module _ {A : Type 0} where
 
   -- a list ends no later than all of them do
   pub ends-within :
-      (n : ℕ) (F : ℕ → List A) (start : ℕ → ℕ) → Starts n F start → (j : ℕ) → 1 ≤ j → j ≤ n → start j + length (F j) ≤ start (n + 1)
+      (n : ℕ) (F : ℕ → List A) (start : ℕ → ℕ) → ListStarts n F start → (j : ℕ) → 1 ≤ j → j ≤ n → start j + length (F j) ≤ start (n + 1)
   ends-within n F start s j lo hi =
       omega (arith, s .next j lo hi, starts-rise n F start s (j + 1) (n - j) (omega arith) (omega arith), ap start (rest n j hi))
     where
@@ -76,7 +76,7 @@ module _ {A : Type 0} where
 
   -- what stands in the list of rank j
   pub getD-joined :
-      (n : ℕ) (F : ℕ → List A) (start : ℕ → ℕ) (none : A) → Starts n F start → (j q : ℕ) → 1 ≤ j → j ≤ n → q < length (F j)
+      (n : ℕ) (F : ℕ → List A) (start : ℕ → ℕ) (none : A) → ListStarts n F start → (j q : ℕ) → 1 ≤ j → j ≤ n → q < length (F j)
       → getD (joined n F) (start j + q) none ≡ getD (F j) q none
   unfolding joined
   getD-joined zero F start none s j q lo hi h = absurd (omega arith)
@@ -92,12 +92,12 @@ module _ {A : Type 0} where
       ∙ getD-joined n F start none fewer j q lo (le-of-suc-le-suc l) h)
       (eq-or-lt-of-le hi)
     where
-      fewer : Starts n F start
+      fewer : ListStarts n F start
       fewer = starts-fewer n F start s
 
   -- the lists one after another are any list of their length that has their letters
   pub is-joined :
-      (none : A) (n : ℕ) (F : ℕ → List A) (start : ℕ → ℕ) → Starts n F start → (xs : List A) → length xs ≡ start (n + 1)
+      (none : A) (n : ℕ) (F : ℕ → List A) (start : ℕ → ℕ) → ListStarts n F start → (xs : List A) → length xs ≡ start (n + 1)
       → ((j q : ℕ) → 1 ≤ j → j ≤ n → q < length (F j) → getD xs (start j + q) none ≡ getD (F j) q none) → xs ≡ joined n F
   unfolding joined
   is-joined none zero F start s xs e h = ext-getD none xs [] (e ∙ s .first) (λ i l. absurd (omega (arith, s .first, ap start (zero-add 1))))
@@ -110,7 +110,7 @@ module _ {A : Type 0} where
       ∙ h j q lo (omega arith) l))
       back
     where
-      fewer : Starts n F start
+      fewer : ListStarts n F start
       fewer = starts-fewer n F start s
 
       ends : start (suc n + 1) ≡ start (n + 1) + length (F (suc n))

@@ -8,7 +8,7 @@ use lib.ListN.{length, getD}
 use Rattle.solving.specs.System.{sequence}
 use Rattle.solving.proofs.System.{sequence-inside}
 use Rattle.sequences.specs.Lists.{run, joined}
-use Rattle.sequences.proofs.Lists.{length-run, getD-run, Starts, length-joined, getD-joined, is-joined}
+use Rattle.sequences.proofs.Lists.{length-run, getD-run, ListStarts, length-joined, getD-joined, is-joined}
 
 -- sequences of one length start at multiples of it
 times-next : (m n : ℕ) → 1 ≤ m → (m + 1 - 1) * n ≡ (m - 1) * n + n
@@ -22,7 +22,7 @@ pub place-index : (p : ℕ) → 1 ≤ p → p - 1 + 1 ≡ p
 place-index p lo = omega arith
 
 module _ {A : Type 0} (none : A) (s n : ℕ) (f : ℕ → ℕ → A) where
-  pub runs-start : Starts s (λ a. run n (f a)) (λ a. (a - 1) * n)
+  pub runs-start : ListStarts s (λ a. run n (f a)) (λ a. (a - 1) * n)
   runs-start =
       record { first = zero-mul n; next = λ a lo hi. times-next a n lo ∙ ap (λ m. (a - 1) * n + m) (sym (length-run n (f a))) }
 

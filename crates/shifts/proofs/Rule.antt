@@ -2,7 +2,7 @@
 use mathlib.Core.Path.{_≡_, sym, subst}
 use mathlib.Core.Logic.{⊎-elim}
 use Prim.Native.Nat.{ℕ, _+_, _-_, _*_, _≤_, _<_}
-use native.Mathlib.Nat.{mul-le-mul, mul-le-mul-left, mul-pos, mul-add, add-mul, zero-mul, mul-zero, eq-or-lt-of-le}
+use native.Mathlib.Nat.{mul-le-mul, mul-le-mul-left, mul-pos, mul-add, add-mul, eq-or-lt-of-le}
 use native.Mathlib.Omega.{arith}
 use Rattle.shifts.specs.Rule.{ShiftRule, t, Refined}
 
@@ -43,12 +43,3 @@ refined = record { rising = rises; growing = grows; equal-only-at-one = only-at-
 pub at-most : (i j : ℕ) → i ≤ 16 → j ≤ 16 → t i j ≤ 225
 unfolding t
 at-most i j hi hj = mul-le-mul {n₂ = 15} {m₂ = 15} (omega arith) (omega arith)
-
--- node 1 and column 1 have no shift
-pub none-at-node-one : (j : ℕ) → t 1 j ≡ 0
-unfolding t
-none-at-node-one j = zero-mul (j - 1)
-
-pub none-at-column-one : (i : ℕ) → t i 1 ≡ 0
-unfolding t
-none-at-column-one i = mul-zero (i - 1)

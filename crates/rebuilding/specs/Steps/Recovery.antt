@@ -1,7 +1,7 @@
 -- What the steps of a recovery leave in the buffer, and what they count.
 use mathlib.Core.Path.{_≡_}
 use mathlib.Core.List.{List}
-use Prim.Native.Nat.{ℕ, _+_, _-_, _≤_, _<_, min}
+use Prim.Native.Nat.{ℕ, _+_, _-_, _*_, _≤_, _<_, min}
 use lib.Bits.{bitXor}
 use lib.ListN.{length}
 use Rattle.letters.specs.Algebra.{xors, counts, sum}
@@ -11,10 +11,18 @@ use Rattle.solving.specs.System.{sequence, part}
 use Rattle.solving.specs.Order.{ruled}
 use Rattle.solving.specs.Count.{within, additions}
 use Rattle.group.specs.declared.Group.{Group}
+use Rattle.group.specs.Ranges.{longest}
 use Rattle.group.specs.Lengths.{fileLetters}
 use Rattle.sequences.specs.Lists.{ranked}
 use Rattle.matrix.specs.Matrix.{entryNumber, matrix}
 use Rattle.matrix.specs.Pieces.{Chosen, pieceLetter}
+
+-- no more letters are added into the at most 16 entries of a column, nor into the at most 16 columns before one; solving a column adds no more either
+abbrev pub entriesMost : ℕ
+entriesMost = 16 * longest
+
+abbrev pub columnMost : ℕ
+columnMost = 16 * entriesMost
 
 -- letter p of entry (v,u) as it stands in the collector's buffer
 abbrev pub standing : Group → List ℕ → ℕ → ℕ → ℕ → ℕ
@@ -81,7 +89,7 @@ pub record Column (g : Group) (ids : List ℕ) (u : ℕ) (before after : List �
       → standing g after w c p ≡ bitXor (standing g before w c p) (standing g after c u (seenAt ids w u p))
   pub kept : (v x p : ℕ) → 1 ≤ x → x ≤ g .d → (x < u → g .k < x) → (x ≡ u → ⊥) → 1 ≤ v → v ≤ min x (g .k) → standing g after v x p ≡ standing g before v x p
   pub counted : count ≡ columnWorth g ids after u
-  pub bound : count ≤ 2097152
+  pub bound : count ≤ columnMost + columnMost
 
 -- the columns after u are done: they have their pieces, and the others are as they came but for what the done ones put into them
 pub record Stage (g : Group) (ids : List ℕ) (u : ℕ) (start buffer : List ℕ) (count : ℕ) : Type 0 where

@@ -3,6 +3,7 @@ use native.Mathlib.Omega.{arith}
 use mathlib.Core.Path.{ap}
 use Prim.Native.Nat.{_*_}
 use native.Mathlib.Nat.{mul-le-mul}
+use Rattle.group.specs.Ranges.{mostPackets}
 use Rattle.group.specs.Lengths.{nodeLetters}
 use borrow.Author.Needs.{needs}
 use Rattle.group.proofs.lengths.node.Statement.{statement}
@@ -12,7 +13,7 @@ widened-requires : tie.Need-widened-requires
 widened-requires c κs = search needs
 
 mul-result : tie.Need-mul-result
-mul-result c = omega (arith, mul-le-mul {n₁ = c .before .before .args .g .d} {n₂ = 15} (omega arith) (c .before .widened .ensures .1))
+mul-result c = omega (arith, mul-le-mul {n₁ = c .before .before .args .g .d} {n₂ = mostPackets} (omega arith) (c .before .widened .ensures .1))
 
 returns : tie.Need-returns
 unfolding nodeLetters

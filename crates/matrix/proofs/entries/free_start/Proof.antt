@@ -5,6 +5,7 @@ use Prim.Native.Nat.{ℕ, _+_, _-_, _*_, _≤_}
 use native.Mathlib.Nat.{mul-le-mul}
 use mir.Syntax.{w64}
 use mir.Val.{Fits}
+use Rattle.group.specs.Ranges.{longest}
 use Rattle.matrix.specs.Matrix.{entryNumber}
 use Rattle.matrix.proofs.Columns.{entry-fits}
 use borrow.Author.Needs.{needs}
@@ -12,8 +13,8 @@ use Rattle.matrix.proofs.entries.free_start.Statement.{statement}
 use Rattle.matrix.proofs.entries.free_start.Tie as tie
 
 -- so many letters fit, whatever number of sequences up to 400 stands before
-fits : (m l : ℕ) → m ≤ 400 → l ≤ 4096 → Fits w64 (m * l)
-fits m l hm hl = record { fits = omega (arith, mul-le-mul {n₁ = m} {m₁ = l} {n₂ = 400} {m₂ = 4096} hm hl) }
+fits : (m l : ℕ) → m ≤ 400 → l ≤ longest → Fits w64 (m * l)
+fits m l hm hl = record { fits = omega (arith, mul-le-mul {n₁ = m} {m₁ = l} {n₂ = 400} {m₂ = longest} hm hl) }
 
 sequences-before-requires : tie.Need-sequences-before-requires
 sequences-before-requires c κs = search needs

@@ -3,13 +3,14 @@ use mathlib.Core.Path.{_≡_, subst, _∙_}
 use Prim.Native.Nat.{_-_, _*_, _≤_, min}
 use Rattle.rebuilding.specs.Steps.Recovery.{Pushed}
 use Rattle.rebuilding.proofs.Pushing.{push-none, push-more}
+use Rattle.rebuilding.specs.Steps.Recovery.{entriesMost}
 use borrow.Author.Needs.{needs}
 use native.Mathlib.Omega.{arith}
 use Rattle.rebuilding.proofs.recovery.push_column.Statement.{statement}
 use Rattle.rebuilding.proofs.recovery.push_column.Tie as tie
 
 abbrev Inv-loop : tie.InvT-loop
-Inv-loop g ids rows u buffer₀ columns count₀ c₀ buffer count c = (c ≤ columns) × (columns ≡ min (u - 1) (g .k)) × Pushed g ids u c buffer₀ buffer count × (count ≤ c * 65536)
+Inv-loop g ids rows u buffer₀ columns count₀ c₀ buffer count c = (c ≤ columns) × (columns ≡ min (u - 1) (g .k)) × Pushed g ids u c buffer₀ buffer count × (count ≤ c * entriesMost)
 
 abbrev μ-loop : tie.MeasureT-loop
 μ-loop g ids rows u buffer₀ columns count₀ c₀ buffer count c = columns - c

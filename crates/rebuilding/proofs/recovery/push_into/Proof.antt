@@ -4,12 +4,13 @@ use mathlib.Core.Path.{_≡_, subst, _∙_}
 use Prim.Native.Nat.{_-_, _*_, _≤_}
 use Rattle.rebuilding.specs.Steps.Recovery.{PushedInto}
 use Rattle.rebuilding.proofs.Pushing.{into-none, into-more}
+use Rattle.group.specs.Ranges.{longest}
 use borrow.Author.Needs.{needs}
 use Rattle.rebuilding.proofs.recovery.push_into.Statement.{statement}
 use Rattle.rebuilding.proofs.recovery.push_into.Tie as tie
 
 abbrev Inv-loop : tie.InvT-loop
-Inv-loop g ids rows u c buffer₀ count₀ w₀ buffer count w = (w ≤ c) × PushedInto g ids u c w buffer₀ buffer count × (count ≤ w * 4096)
+Inv-loop g ids rows u c buffer₀ count₀ w₀ buffer count w = (w ≤ c) × PushedInto g ids u c w buffer₀ buffer count × (count ≤ w * longest)
 
 abbrev μ-loop : tie.MeasureT-loop
 μ-loop g ids rows u c buffer₀ count₀ w₀ buffer count w = c - w

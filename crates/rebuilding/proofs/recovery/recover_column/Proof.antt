@@ -8,6 +8,8 @@ use Rattle.solving.specs.Solver.{shiftIn, Solvable}
 use Rattle.sequences.proofs.Charted.{solvable}
 use Rattle.matrix.proofs.ChosenRanks.{ranks}
 use Rattle.rebuilding.proofs.SolveColumn.{column-fits, lent-size, lent-length, additions-bound, solved-as, middle-length, column-done}
+use Rattle.group.specs.Ranges.{longest}
+use Rattle.rebuilding.specs.Steps.Recovery.{entriesMost}
 use borrow.Author.Needs.{needs}
 use Rattle.rebuilding.proofs.recovery.recover_column.Statement.{statement}
 use Rattle.rebuilding.proofs.recovery.recover_column.Tie as tie
@@ -20,15 +22,15 @@ sequences-before-requires c κs = search needs
 
 mul-start : tie.Need-mul-start
 mul-start c = let s = c .before .before .before .before .before .before in
-    omega (arith, mul-le-mul {n₁ = c .before .sequences-before .result} {m₁ = s .args .g .l} {n₂ = 360} {m₂ = 4096} (omega arith) (omega arith))
+    omega (arith, mul-le-mul {n₁ = c .before .sequences-before .result} {m₁ = s .args .g .l} {n₂ = 360} {m₂ = longest} (omega arith) (omega arith))
 
 mul-end : tie.Need-mul-end
 mul-end c = let s = c .before .before .before .before .before .before .before in
-    omega (arith, mul-le-mul {n₁ = c .before .before .sequences-before .result} {m₁ = s .args .g .l} {n₂ = 360} {m₂ = 4096} (omega arith) (omega arith), mul-le-mul {n₁ = c .before .before .before .lesser .result} {m₁ = s .args .g .l} {n₂ = 16} {m₂ = 4096} (omega (arith, c .before .before .before .lesser .ensures)) (omega arith))
+    omega (arith, mul-le-mul {n₁ = c .before .before .sequences-before .result} {m₁ = s .args .g .l} {n₂ = 360} {m₂ = longest} (omega arith) (omega arith), mul-le-mul {n₁ = c .before .before .before .lesser .result} {m₁ = s .args .g .l} {n₂ = 16} {m₂ = longest} (omega (arith, c .before .before .before .lesser .ensures)) (omega arith))
 
 add-end : tie.Need-add-end
 add-end c = let s = c .before .before .before .before .before .before .before in
-    omega (arith, mul-le-mul {n₁ = c .before .before .sequences-before .result} {m₁ = s .args .g .l} {n₂ = 360} {m₂ = 4096} (omega arith) (omega arith), mul-le-mul {n₁ = c .before .before .before .lesser .result} {m₁ = s .args .g .l} {n₂ = 16} {m₂ = 4096} (omega (arith, c .before .before .before .lesser .ensures)) (omega arith))
+    omega (arith, mul-le-mul {n₁ = c .before .before .sequences-before .result} {m₁ = s .args .g .l} {n₂ = 360} {m₂ = longest} (omega arith) (omega arith), mul-le-mul {n₁ = c .before .before .before .lesser .result} {m₁ = s .args .g .l} {n₂ = 16} {m₂ = longest} (omega (arith, c .before .before .before .lesser .ensures)) (omega arith))
 
 sub-solve : tie.Need-sub-solve
 sub-solve c = search needs
@@ -69,7 +71,7 @@ add-result c = let s = c .before .before .before .before .before .before .before
       v .ensures .counted,
       additions-bound (c .before .before .before .before .before .before .before .before .before .before .before .lesser .result) (s .args .g .l) (shiftIn (s .args .rows .now)) (sequence 0 (v .last .0) (s .args .g .l)),
       c .before .before .push-column .ensures .1,
-      mul-le-mul {n₁ = c .before .before .before .before .before .before .before .before .before .before .before .lesser .result} {m₁ = s .args .g .l * c .before .before .before .before .before .before .before .before .before .before .before .lesser .result} {n₂ = 16} {m₂ = 65536} (omega (arith, c .before .before .before .before .before .before .before .before .before .before .before .lesser .ensures)) (mul-le-mul {n₁ = s .args .g .l} {m₁ = c .before .before .before .before .before .before .before .before .before .before .before .lesser .result} {n₂ = 4096} {m₂ = 16} (omega arith) (omega (arith, c .before .before .before .before .before .before .before .before .before .before .before .lesser .ensures))),
+      mul-le-mul {n₁ = c .before .before .before .before .before .before .before .before .before .before .before .lesser .result} {m₁ = s .args .g .l * c .before .before .before .before .before .before .before .before .before .before .before .lesser .result} {n₂ = 16} {m₂ = entriesMost} (omega (arith, c .before .before .before .before .before .before .before .before .before .before .before .lesser .ensures)) (mul-le-mul {n₁ = s .args .g .l} {m₁ = c .before .before .before .before .before .before .before .before .before .before .before .lesser .result} {n₂ = longest} {m₂ = 16} (omega arith) (omega (arith, c .before .before .before .before .before .before .before .before .before .before .before .lesser .ensures))),
     )
 
 same-length : tie.Need-same-length

@@ -1,14 +1,14 @@
 -- `recovery::recover_columns` meets its contract: after each turn one column more is done.
 use mathlib.Core.Path.{_≡_, subst, _∙_}
-use Prim.Native.Nat.{_-_, _*_, _≤_}
-use Rattle.rebuilding.specs.Steps.Recovery.{Stage}
+use Prim.Native.Nat.{_+_, _-_, _*_, _≤_}
+use Rattle.rebuilding.specs.Steps.Recovery.{columnMost, Stage}
 use Rattle.rebuilding.proofs.Stages.{stage-start, stage-next}
 use native.Mathlib.Omega.{arith}
 use Rattle.rebuilding.proofs.recovery.recover_columns.Statement.{statement}
 use Rattle.rebuilding.proofs.recovery.recover_columns.Tie as tie
 
 abbrev Inv-loop : tie.InvT-loop
-Inv-loop g ids rows buffer₀ count₀ u₀ buffer count u = (u ≤ g .d) × Stage g ids u buffer₀ buffer count × (count ≤ (g .d - u) * 2097152)
+Inv-loop g ids rows buffer₀ count₀ u₀ buffer count u = (u ≤ g .d) × Stage g ids u buffer₀ buffer count × (count ≤ (g .d - u) * (columnMost + columnMost))
 
 abbrev μ-loop : tie.MeasureT-loop
 μ-loop g ids rows buffer₀ count₀ u₀ buffer count u = u
