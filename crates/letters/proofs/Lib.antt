@@ -5,3 +5,4 @@ pub mod Places
 pub mod Runs
 pub mod Laying
 pub mod Worth
+pub mod Carried

@@ -3,4 +3,5 @@ pub mod Algebra
 pub mod Places
 pub mod Runs
 pub mod Laid
+pub mod Lanes
 pub mod Worth

@@ -11,3 +11,4 @@ pub mod Reading
 pub mod Rebuilt
 pub mod SomeFile
 pub mod Theorems
+pub mod Carried

@@ -1,4 +1,5 @@
 -- Laws, and why the functions keep their contracts.
+pub mod CarriedRuns
 pub mod Charted
 pub mod LinearRuns
 pub mod Lists

@@ -7,7 +7,7 @@ use lib.Arith.{bin-ind}
 use lib.Bits.{bitXor, xor-shr, xor-mod}
 
 -- what holds of 0 and 1 holds of a number below 2
-bit-cases : (P : ℕ → Type 0) → P 0 → P 1 → (a : ℕ) → a < 2 → P a
+pub bit-cases : (P : ℕ → Type 0) → P 0 → P 1 → (a : ℕ) → a < 2 → P a
 bit-cases P p0 p1 zero h = p0
 bit-cases P p0 p1 (suc zero) h = p1
 bit-cases P p0 p1 (suc (suc a)) h = absurd (omega arith)
