@@ -5,18 +5,18 @@ use mathlib.Core.List.{List}
 use Prim.Native.Nat.{ℕ, zero, suc, _+_, _≤_}
 use native.Mathlib.Omega.{arith}
 use lib.Dec.{eqb}
-use borrow.Author.Tests.{eqb-true, eqb-false, not-true, le-leb, ne-eqb}
+use borrow.Author.Tests.{eqb-true, eqb-false, not-true, le-leb, eq-eqb, ne-eqb}
 use Rattle.letters.specs.Places.{both}
 use Rattle.group.specs.declared.Group.{Group}
 use Rattle.group.specs.declared.Refusal.{Refusal}
 use Rattle.group.specs.declared.Answer.{Answer}
 use Rattle.group.specs.Answers.{refusalNumber, unless, first}
-use Rattle.group.specs.Ranges.{between, mostLetters, InRange, groupRefusal, nodeRefusal}
+use Rattle.group.specs.Ranges.{between, mostLetters, InRange, NodeOf, groupRefusal, nodeRefusal}
 use Rattle.shifts.specs.Rule.{t}
 use Rattle.group.specs.Lengths.{packetStart, packetLength, nodeLetters}
 use Rattle.group.proofs.Sizes.{packet-fits, node-at-most}
 use Rattle.group.proofs.Refusals.{numbered, refuses, gives, first-none, first-fine, unless-none, both-true}
-use Rattle.group.proofs.InRange.{between-true, in-range, node-of, of-node}
+use Rattle.group.proofs.InRange.{between-true, in-range, range-in, node-of, of-node}
 use Rattle.nodes.specs.Calls.{Called, helperRefusal, placeRefusal, pieceRefusal, entryRefusal}
 use Rattle.nodes.specs.Steps.{Helper}
 use Rattle.matrix.specs.Matrix.{Free}
@@ -98,15 +98,35 @@ entry-of g rank column e =
     let w = first-none (groupRefusal g) (placeRefusal g rank column) e in
     place-of g rank column (in-range g (w .0)) (w .1)
 
--- a piece that is not refused lies within the packets, which are not too many
+pub of-entry : (g : Group) (rank column : ℕ) → Free g rank column → entryRefusal g rank column ≡ 0
+unfolding entryRefusal
+of-entry g rank column f = simp (range-in g (f .group), of-place g rank column f)
+
+-- a piece that is not refused is of a node, at a free entry, and its packets are all there
+pub piece-of :
+    (g : Group) (node rank column held : ℕ) → pieceRefusal g node rank column held ≡ 0 → NodeOf g node × Free g rank column × (held ≡ nodeLetters g node)
+unfolding pieceRefusal
+piece-of g node rank column held e =
+    let w = first-none (nodeRefusal g node) (first (placeRefusal g rank column) (unless (eqb held (nodeLetters g node)) 5)) e in
+    let v = first-none (placeRefusal g rank column) (unless (eqb held (nodeLetters g node)) 5) (w .1) in
+    let n = node-of g node (w .0) in (
+      n,
+      place-of g rank column (n .group) (v .0),
+      eqb-true held (nodeLetters g node) (unless-none (eqb held (nodeLetters g node)) 5 (λ q. omega arith) (v .1)),
+    )
+
+-- and the other way round
+pub of-piece : (g : Group) (node rank column : ℕ) → NodeOf g node → Free g rank column → pieceRefusal g node rank column (nodeLetters g node) ≡ 0
+unfolding pieceRefusal
+of-piece g node rank column n f = simp (of-node g node n, of-place g rank column f, eq-eqb (nodeLetters g node) (nodeLetters g node) refl)
+
+-- it lies within the packets, which are not too many
 pub piece-fits :
     (g : Group) (node rank column held : ℕ) → pieceRefusal g node rank column held ≡ 0
     → (packetStart g node column + t node rank + g .l ≤ held) × (held ≤ mostLetters)
-unfolding pieceRefusal packetLength
+unfolding packetLength
 piece-fits g node rank column held e =
-    let w = first-none (nodeRefusal g node) (first (placeRefusal g rank column) (unless (eqb held (nodeLetters g node)) 5)) e in
-    let v = first-none (placeRefusal g rank column) (unless (eqb held (nodeLetters g node)) 5) (w .1) in
-    let n = node-of g node (w .0) in
-    let f = place-of g rank column (n .group) (v .0) in
-    let same = eqb-true held (nodeLetters g node) (unless-none (eqb held (nodeLetters g node)) 5 (λ q. omega arith) (v .1)) in
-    (omega (arith, packet-fits g node n column (omega arith) (omega arith), shift-rises node rank (g .d) (omega arith) (omega arith) (omega arith)), omega (arith, node-at-most g node n))
+    let w = piece-of g node rank column held e in (
+      omega (arith, w .2, packet-fits g node (w .0) column (omega (arith, w .1)) (omega (arith, w .1)), shift-rises node rank (g .d) (omega (arith, w .0)) (omega (arith, w .1)) (omega (arith, w .1)), w .0, w .1),
+      omega (arith, w .2, node-at-most g node (w .0)),
+    )

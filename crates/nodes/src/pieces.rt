@@ -5,22 +5,16 @@ use group::Group;
 use group::Refusal;
 use matrix::entries;
 ghost use mathlib.Core.Path.{_≡_};
-ghost use mathlib.Core.List.{[]};
-ghost use Prim.Native.Nat.{_+_, _-_, _*_};
-ghost use lib.ListN.{length};
-ghost use Rattle.shifts.specs.Rule.{t};
-ghost use Rattle.group.specs.Answers.{checkNumber, Answers, ifFine};
+ghost use Prim.Native.Nat.{_+_, _-_};
+ghost use Rattle.group.specs.Answers.{checkNumber};
 ghost use Rattle.group.specs.Ranges.{NodeOf};
-ghost use Rattle.group.specs.Lengths.{packetStart};
-ghost use Rattle.nodes.specs.Calls.{placeRefusal, pieceRefusal, entryRefusal};
-ghost use Rattle.matrix.specs.Matrix.{entryNumber};
-ghost use Rattle.matrix.specs.Pieces.{pieceIn};
+ghost use Rattle.nodes.specs.Calls.{Handed, Starting, Placed, placeRefusal, entryRefusal};
 ghost use Rattle.matrix.specs.Matrix.{Free};
 
 // What `node` sends as `rank` of `column`: that part of its packets, letters t(i,v)+1 .. t(i,v)+L of packet u, uncopied.
 // The empty part means refused (L >= 1); `piece_start` tells by which number.
 pub fn piece<'a>(g: Group, node: usize, rank: usize, column: usize, packets: &'a [u8]) -> &'a [u8]
-    ensures { λ r. ⌜ now r ≡ ifFine (pieceRefusal g node rank column (length (now (packets .entry)))) (pieceIn g node rank column (now (packets .entry))) [] ⌝ }
+    ensures { λ r. ⌜ Handed g node rank column (packets .entry) r ⌝ }
 {
     match piece_start(g, node, rank, column, packets.len()) {
         Answer::Refused(_) => &packets[0..0],
@@ -34,7 +28,7 @@ pub fn piece<'a>(g: Group, node: usize, rank: usize, column: usize, packets: &'a
 // The companion of `piece`, handed how many letters the packets have: the index at which the piece starts in them, or the refusal.
 // Refusals: 1, 2, 3 for the node, for a rank outside 1..k or a column outside rank..d, 5 for packets of another length.
 pub fn piece_start(g: Group, node: usize, rank: usize, column: usize, held: usize) -> Answer
-    ensures { λ r. ⌜ Answers r (pieceRefusal g node rank column held) (packetStart g node column + t node rank) ⌝ }
+    ensures { λ r. ⌜ Starting g node rank column held r ⌝ }
 {
     match group::checks::node(g, node) {
         Check::Refused(refusal) => Answer::Refused(refusal),
@@ -45,7 +39,7 @@ pub fn piece_start(g: Group, node: usize, rank: usize, column: usize, held: usiz
 // The same for a node of the group.
 fn start_of_node(g: Group, node: usize, rank: usize, column: usize, held: usize) -> Answer
     requires { ⌜ NodeOf g node ⌝ }
-    ensures { λ r. ⌜ Answers r (pieceRefusal g node rank column held) (packetStart g node column + t node rank) ⌝ }
+    ensures { λ r. ⌜ Starting g node rank column held r ⌝ }
 {
     match check_place(g, rank, column) {
         Check::Refused(refusal) => Answer::Refused(refusal),
@@ -56,7 +50,7 @@ fn start_of_node(g: Group, node: usize, rank: usize, column: usize, held: usize)
 // The same for a rank and a column that fit.
 fn start_of_place(g: Group, node: usize, rank: usize, column: usize, held: usize) -> Answer
     requires { ⌜ (NodeOf g node) × (Free g rank column) ⌝ }
-    ensures { λ r. ⌜ Answers r (pieceRefusal g node rank column held) (packetStart g node column + t node rank) ⌝ }
+    ensures { λ r. ⌜ Starting g node rank column held r ⌝ }
 {
     let wanted = group::lengths::node(g, node);
     if held != wanted {
@@ -88,7 +82,7 @@ fn check_place(g: Group, rank: usize, column: usize) -> Check
 // Where the collector puts the piece of this rank and column: the index at which entry (rank, column) starts in its buffer,
 // which is laid out as the file. Refusals: 1, 2, 3.
 pub fn entry(g: Group, rank: usize, column: usize) -> Answer
-    ensures { λ r. ⌜ Answers r (entryRefusal g rank column) ((entryNumber (g .k) rank column - 1) * g .l) ⌝ }
+    ensures { λ r. ⌜ Placed g rank column r ⌝ }
 {
     match check_entry(g, rank, column) {
         Check::Refused(refusal) => Answer::Refused(refusal),

@@ -2,23 +2,18 @@
 use mathlib.Core.Path.{_≡_, refl, sym, ap, _∙_}
 use mathlib.Core.List.{List}
 use Prim.Native.Nat.{ℕ, zero, suc}
-use native.Mathlib.Omega.{arith}
-use lib.Dec.{eqb}
 use lib.ListN.{length}
-use borrow.Author.Tests.{eqb-true}
 use Rattle.letters.specs.Algebra.{bytes, xors}
 use Rattle.group.specs.declared.Group.{Group}
 use Rattle.group.specs.declared.Answer.{Answer}
-use Rattle.group.specs.Answers.{unless, ifFine}
-use Rattle.group.specs.Lengths.{fileLetters, repairBuffer}
+use Rattle.group.specs.Answers.{ifFine}
 use Rattle.group.proofs.Outcomes.{answer-once}
-use Rattle.group.proofs.Refusals.{first-none, unless-none}
 use Rattle.matrix.specs.Pieces.{reading}
 use Rattle.matrix.specs.Repair.{equations}
 use Rattle.matrix.specs.Counts.{recoveryCount, repairCount}
-use Rattle.rebuilding.specs.Calls.{readersRefusal, recoverRefusal, Recovered, helpersRefusal, repairRefusal, Repaired}
-use Rattle.rebuilding.proofs.RepairCalls.{helpers-of}
-use Rattle.rebuilding.proofs.RecoverCalls.{readers-of}
+use Rattle.rebuilding.specs.Calls.{recoverRefusal, Recovered, repairRefusal, Repaired}
+use Rattle.rebuilding.proofs.RepairCalls.{repair-of}
+use Rattle.rebuilding.proofs.RecoverCalls.{recover-of}
 use Rattle.matrix.proofs.Rebuilt.{one-repair, same-buffer}
 use Rattle.matrix.proofs.Theorems.{reading-once}
 
@@ -34,13 +29,11 @@ pub one-recovered :
     (g : Group) (ids before after after′ : List ℕ) → length after ≡ length before → length after′ ≡ length before
     → ifFine (recoverRefusal g ids (length before)) (reading xors g after ids) after ≡ before
     → ifFine (recoverRefusal g ids (length before)) (reading xors g after′ ids) after′ ≡ before → after ≡ after′
-unfolding recoverRefusal
 one-recovered g ids before after after′ size size′ e e′ =
     by-refusal (recoverRefusal g ids (length before)) (λ file. reading xors g file ids) before after after′ e e′
     (λ z same.
-    let w = first-none (readersRefusal g ids) (unless (eqb (length before) (fileLetters g)) 5) z in
-    let long = eqb-true (length before) (fileLetters g) (unless-none (eqb (length before) (fileLetters g)) 5 (λ q. omega arith) (w .1)) in
-    reading-once bytes g ids (readers-of g ids (w .0) .chosen) after after′ (size ∙ long) (size′ ∙ long) same)
+    let w = recover-of g ids (length before) z in
+    reading-once bytes g ids (w .0 .chosen) after after′ (size ∙ w .1) (size′ ∙ w .1) same)
 
 pub recovered-once :
     (g : Group) (ids before after after′ : List ℕ) (r r′ : Answer) → Recovered g ids before after r → Recovered g ids before after′ r′
@@ -54,14 +47,11 @@ pub one-repaired :
     (g : Group) (lost : ℕ) (helpers before after after′ : List ℕ) → length after ≡ length before → length after′ ≡ length before
     → ifFine (repairRefusal g lost helpers (length before)) (equations xors g lost helpers after) after ≡ before
     → ifFine (repairRefusal g lost helpers (length before)) (equations xors g lost helpers after′) after′ ≡ before → after ≡ after′
-unfolding repairRefusal
 one-repaired g lost helpers before after after′ size size′ e e′ =
     by-refusal (repairRefusal g lost helpers (length before)) (equations xors g lost helpers) before after after′ e e′
     (λ z same.
-    let w = first-none (helpersRefusal g lost helpers) (unless (eqb (length before) (repairBuffer g lost)) 5) z in
-    let long = eqb-true (length before) (repairBuffer g lost) (unless-none (eqb (length before) (repairBuffer g lost)) 5 (λ q. omega arith) (w .1)) in
-    one-repair bytes g lost helpers (helpers-of g lost helpers (w .0) .chosen) after after′ (size ∙ long ∙ same-buffer g lost)
-    (size′ ∙ long ∙ same-buffer g lost) same)
+    let w = repair-of g lost helpers (length before) z in
+    one-repair bytes g lost helpers (w .0 .chosen) after after′ (size ∙ w .1 ∙ same-buffer g lost) (size′ ∙ w .1 ∙ same-buffer g lost) same)
 
 pub repaired-once :
     (g : Group) (lost : ℕ) (helpers before after after′ : List ℕ) (r r′ : Answer) → Repaired g lost helpers before after r

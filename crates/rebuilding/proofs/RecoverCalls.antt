@@ -2,15 +2,19 @@
 use mathlib.Core.Path.{_≡_, refl, _∙_}
 use mathlib.Core.List.{List}
 use Prim.Native.Nat.{ℕ}
+use native.Mathlib.Omega.{arith}
+use lib.Dec.{eqb}
 use lib.ListN.{length}
+use borrow.Author.Tests.{eqb-true, eq-eqb}
 use Rattle.letters.specs.Algebra.{xors}
 use Rattle.group.specs.declared.Group.{Group}
 use Rattle.group.specs.declared.Refusal.{Refusal}
 use Rattle.group.specs.declared.Answer.{Answer}
-use Rattle.group.specs.Answers.{refusalNumber}
+use Rattle.group.specs.Answers.{refusalNumber, unless}
 use Rattle.group.specs.Ranges.{groupRefusal, idsRefusal}
+use Rattle.group.specs.Lengths.{fileLetters}
 use Rattle.group.proofs.InRange.{in-range}
-use Rattle.group.proofs.Refusals.{numbered, refuses, gives, first-none, if-refused, if-fine}
+use Rattle.group.proofs.Refusals.{numbered, refuses, gives, first-none, unless-none, if-refused, if-fine}
 use Rattle.matrix.specs.Pieces.{reading}
 use Rattle.matrix.specs.Counts.{recoveryCount}
 use Rattle.rebuilding.specs.Calls.{readersRefusal, recoverRefusal, Recovered}
@@ -24,6 +28,17 @@ unfolding readersRefusal
 readers-of g ids e =
     let w = first-none (groupRefusal g) (idsRefusal g (g .k) ids) e in
     record { chosen = chosen-of g (g .k) ids (in-range g (w .0)) (w .1); fine = e }
+
+-- a recovery that is not refused has ids that may be read and a buffer of B*L letters, and the other way round
+pub recover-of : (g : Group) (ids : List ℕ) (n : ℕ) → recoverRefusal g ids n ≡ 0 → Readers g ids × (n ≡ fileLetters g)
+unfolding recoverRefusal
+recover-of g ids n e =
+    let w = first-none (readersRefusal g ids) (unless (eqb n (fileLetters g)) 5) e in
+    (readers-of g ids (w .0), eqb-true n (fileLetters g) (unless-none (eqb n (fileLetters g)) 5 (λ q. omega arith) (w .1)))
+
+pub of-recover : (g : Group) (ids : List ℕ) (n : ℕ) → readersRefusal g ids ≡ 0 → n ≡ fileLetters g → recoverRefusal g ids n ≡ 0
+unfolding recoverRefusal
+of-recover g ids n e long = simp (e, eq-eqb n (fileLetters g) long)
 
 pub recover-refused :
     (g : Group) (ids before : List ℕ) (r : Refusal) → refusalNumber r ≡ recoverRefusal g ids (length before)

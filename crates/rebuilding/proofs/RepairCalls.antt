@@ -3,7 +3,9 @@ use mathlib.Core.Path.{_≡_, refl, sym, subst, _∙_}
 use mathlib.Core.List.{List}
 use Prim.Native.Nat.{ℕ}
 use native.Mathlib.Omega.{arith}
+use lib.Dec.{eqb}
 use lib.ListN.{length}
+use borrow.Author.Tests.{eqb-true}
 use Rattle.letters.specs.Algebra.{xors}
 use Rattle.solving.specs.System.{part, sequence}
 use Rattle.solving.specs.Solver.{Solved}
@@ -11,11 +13,11 @@ use Rattle.shifts.specs.Rule.{t}
 use Rattle.group.specs.declared.Group.{Group}
 use Rattle.group.specs.declared.Refusal.{Refusal}
 use Rattle.group.specs.declared.Answer.{Answer}
-use Rattle.group.specs.Answers.{refusalNumber, first}
+use Rattle.group.specs.Answers.{refusalNumber, unless, first}
 use Rattle.group.specs.Ranges.{nodeRefusal, idsRefusal}
 use Rattle.group.specs.Lengths.{repairLetters, repairBuffer}
 use Rattle.group.proofs.InRange.{node-of}
-use Rattle.group.proofs.Refusals.{first-none, numbered, refuses, gives, if-refused, if-fine}
+use Rattle.group.proofs.Refusals.{first-none, unless-none, numbered, refuses, gives, if-refused, if-fine}
 use Rattle.matrix.specs.Repair.{equations}
 use Rattle.matrix.specs.Counts.{repairCount}
 use Rattle.rebuilding.specs.Calls.{apartRefusal, helpersRefusal, repairRefusal, Repaired}
@@ -68,3 +70,11 @@ helpers-of g lost helpers e =
     let v = first-none (idsRefusal g (g .d) helpers) (apartRefusal lost helpers) (w .1) in
     let n = node-of g lost (w .0) in
     record { node = n; chosen = chosen-of g (g .d) helpers (n .group) (v .0); fine = e }
+
+-- a repair that is not refused has a lost node with its helpers and a buffer of d*L' letters
+pub repair-of :
+    (g : Group) (lost : ℕ) (helpers : List ℕ) (n : ℕ) → repairRefusal g lost helpers n ≡ 0 → Helpers g lost helpers × (n ≡ repairBuffer g lost)
+unfolding repairRefusal
+repair-of g lost helpers n e =
+    let w = first-none (helpersRefusal g lost helpers) (unless (eqb n (repairBuffer g lost)) 5) e in
+    (helpers-of g lost helpers (w .0), eqb-true n (repairBuffer g lost) (unless-none (eqb n (repairBuffer g lost)) 5 (λ q. omega arith) (w .1)))

@@ -7,7 +7,7 @@ use lib.Dec.{leb, ltb, eqb}
 use lib.ListN.{length, getD}
 use Rattle.letters.specs.Places.{both}
 use Rattle.group.specs.Answers.{ifFine}
-use Rattle.group.specs.Ranges.{between, longest, either, nodeRefusal}
+use Rattle.group.specs.Ranges.{between, longest, mostLetters, either, nodeRefusal}
 use Rattle.group.specs.Lengths.{nodeLetters, blocks}
 use Rattle.share.specs.declared.Head.{Head}
 use Rattle.share.specs.Share.{kindHead, kindFull, kindLast, headSize, blockSize, endSize, blockLetters, endRecord}
@@ -44,7 +44,7 @@ totalIn xs = totalOf (headIn xs)
 
 -- no T is above this (document 01: at most 64,590), so that nothing overflows
 abbrev pub letterBound : ℕ
-letterBound = 64815
+letterBound = mostLetters
 
 -- the bytes of a share of so many letters
 abbrev pub sizeFor : ℕ → ℕ
