@@ -1,3 +1,4 @@
 -- A table's rule, and the laws of shift rules.
 pub mod Entries
 pub mod Rule
+pub mod Tested

@@ -5,8 +5,9 @@ ghost use lib.ListN.{length};
 ghost use Rattle.solving.specs.Count.{other, within};
 ghost use Rattle.solving.specs.Solver.{shiftIn};
 
-// The place that letter `q` of a piece reads in a sequence that lies at `moved - own` in it, or 0 where that place is outside 1..n.
-// The only signed number of the store: the offset, below zero to the left.
+// The place that letter `q` of a piece reads in a sequence, or 0 where that place is outside 1..n. Seen from the sequence the piece lies at
+// `own - moved`: the offset, below zero to the left. It is added to the position, and the place is tested before it is used.
+// It is the only signed number of the store.
 pub fn place(q: usize, own: usize, moved: usize, n: usize) -> usize
     requires { ⌜ (q ≤ 2 ^ 32) × (own ≤ 65535) × (moved ≤ 65535) × (n ≤ 2 ^ 32) ⌝ }
     ensures { λ r. ⌜ r ≡ within n ((q + own) - moved) ((q + own) - moved) ⌝ }

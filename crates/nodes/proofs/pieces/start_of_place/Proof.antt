@@ -29,7 +29,7 @@ shift-requires c κs = search needs
 
 add-t11 : tie.Need-add-t11
 add-t11 c = let s = c .before .before .before .before in
-    omega (arith, c .before .packet-start .ensures, c .shift .ensures, at-most (s .args .node) (s .args .rank) (omega arith) (omega arith), node-at-most (s .args .g) (s .args .node) (s .pre .0), packet-fits (s .args .g) (s .args .node) (s .pre .0) (s .args .column) (omega arith) (omega arith))
+    omega (arith, c .before .packet-start .ensures, c .shift .ensures, at-most (s .args .node) (s .args .rank) (omega arith) (omega arith), at-most (s .args .node) (s .args .column) (omega arith) (omega arith), node-at-most (s .args .g) (s .args .node) (s .pre .0), packet-fits (s .args .g) (s .args .node) (s .pre .0) (s .args .column) (omega arith) (omega arith))
 
 returns-2 : tie.Need-returns-2
 unfolding pieceRefusal
