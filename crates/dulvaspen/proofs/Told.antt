@@ -7,9 +7,8 @@ use Rattle.group.specs.declared.Refusal.{Refusal}
 use Rattle.group.specs.declared.Answer.{Answer}
 use Rattle.group.specs.Answers.{numberOf, valueOf, ifFine, Answers}
 use Rattle.group.proofs.Refusals.{numbered, if-refused}
-use Rattle.nodes.specs.Calls.{Called}
 use Rattle.rebuilding.specs.Calls.{Recovered, Repaired}
-use Rattle.dulvaspen.specs.Exports.{Tells, Fills, Recovers, Repairs}
+use Rattle.dulvaspen.specs.Exports.{Tells, Recovers, Repairs}
 
 -- a value stands in the lent number
 pub value-told : (a : Answer) (v m : ℕ) → a ≡ Answer.Value v → v ≡ ifFine (numberOf a) (valueOf a) m
@@ -30,10 +29,6 @@ tells-of a q v before after r answers e h =
       returned = e ∙ answers .number;
       told = h ∙ ap (λ m. ifFine m (valueOf a) before) (answers .number) ∙ ap (λ m. ifFine q m before) (answers .valued) ∙ once q v before;
     }
-
-pub fills-of :
-    (a : Answer) (q v r : ℕ) (right before after : List ℕ) → Called q v right before after a → r ≡ numberOf a → Fills q right before after r
-fills-of a q v r right before after called e = record { returned = e ∙ called .answer .number; holds = called .holds }
 
 pub recovers-of :
     (g : Group) (ids before after : List ℕ) (a : Answer) (count count′ r : ℕ) → Recovered g ids before after a → r ≡ numberOf a

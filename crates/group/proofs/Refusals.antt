@@ -27,12 +27,6 @@ pub unless-none : (b : Bool) (r : ℕ) → (r ≡ 0 → ⊥) → unless b r ≡ 
 unless-none true r n e = refl
 unless-none false r n e = absurd (n e)
 
-pub unless-holds : (b : Bool) (r : ℕ) → b ≡ true → unless b r ≡ 0
-unless-holds b r e = rw e
-
-pub unless-fails : (b : Bool) (r : ℕ) → b ≡ false → unless b r ≡ r
-unless-fails b r e = rw e
-
 -- where the first of two refuses, it is what comes out; where it doesn't, the second is
 pub first-refused : (a b : ℕ) → (a ≡ 0 → ⊥) → first a b ≡ a
 first-refused zero b n = absurd (n refl)

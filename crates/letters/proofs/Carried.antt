@@ -1,5 +1,5 @@
 -- What a map of letters that takes sums to sums does to sums and runs; a bit lane is such a map, and so is a number's last byte.
-use mathlib.Core.Path.{_≡_, refl, sym, ap, ap₂, _∙_}
+use mathlib.Core.Path.{_≡_, refl, sym, ap, _∙_}
 use mathlib.Core.Bool.{Bool, true, false, cond}
 use mathlib.Core.List.{List, map}
 use Prim.Native.Nat.{ℕ, zero, suc, _+_, _-_, _/_, _%_, _^_, _<_}
@@ -7,7 +7,7 @@ use native.Mathlib.Nat.{mod-eq-of-lt, zero-div}
 use native.Mathlib.Omega.{arith}
 use lib.Bits.{bitXor, xor-mod, xor-shr}
 use lib.Dec.{eqb}
-use lib.ListN.{length, getD, length-map, List·getD-map}
+use lib.ListN.{getD, length-map, List·getD-map}
 use lib.Seq.{ext-getD}
 use Rattle.letters.specs.Algebra.{Adding, xors, bits, sum}
 use Rattle.letters.specs.Algebra.Bits.{unlike}

@@ -13,7 +13,7 @@ use Rattle.letters.specs.Places.{letter}
 use Rattle.letters.specs.Runs.{xored, added}
 use Rattle.letters.proofs.Cases.{le-or-lt}
 use Rattle.letters.proofs.Places.{place-cases, letter-zero, letter-above, letter-of-all, letter-of-nothing}
-use Rattle.letters.proofs.Sums.{none-plus, plus-right, plus-twice}
+use Rattle.letters.proofs.Sums.{none-plus}
 
 module _ {A : Type 0} (𝓐 : Adding A) where
   pub length-xored : (xs ys : List A) → length (xored 𝓐 xs ys) ≡ length xs
@@ -120,16 +120,6 @@ module _ {A : Type 0} (𝓐 : Adding A) where
   length-both : (xs : List A) (a b : ℕ) (ys zs : List A) → length (added 𝓐 (added 𝓐 xs a ys) b zs) ≡ length xs
   length-both xs a b ys zs = length-added (added 𝓐 xs a ys) b zs ∙ length-added xs a ys
 
-  -- in either order
-  pub added-swap :
-      (xs : List A) (a b : ℕ) (ys zs : List A) → added 𝓐 (added 𝓐 xs a ys) b zs ≡ added 𝓐 (added 𝓐 xs b zs) a ys
-  added-swap xs a b ys zs =
-      agree xs (added 𝓐 (added 𝓐 xs a ys) b zs) (added 𝓐 (added 𝓐 xs b zs) a ys) (length-both xs a b ys zs) (length-both xs b a zs ys)
-      (λ i l.
-      added-both xs a b ys zs i l
-      ∙ plus-right 𝓐 (getD xs i (𝓐 .none)) (letter (𝓐 .none) ys 0 (length ys) (i + 1 - a)) (letter (𝓐 .none) zs 0 (length zs) (i + 1 - b))
-      ∙ sym (added-both xs b a zs ys i l))
-
   -- the letter at a place of an XOR is the sum of the two letters there
   pub letter-xored :
       (ys zs : List A) (p : ℕ) → length zs ≤ length ys
@@ -181,20 +171,6 @@ module _ {A : Type 0} (𝓐 : Adding A) where
       back : (n q : ℕ) → n ≤ q → q ≡ n + (q - n)
       back n q h = omega arith
 
-  -- at one place: their XOR is added there
-  pub added-joined :
-      (xs : List A) (at : ℕ) (ys zs : List A) → length zs ≤ length ys
-      → added 𝓐 (added 𝓐 xs at ys) at zs ≡ added 𝓐 xs at (xored 𝓐 ys zs)
-  added-joined xs at ys zs h =
-      agree xs (added 𝓐 (added 𝓐 xs at ys) at zs) (added 𝓐 xs at (xored 𝓐 ys zs)) (length-both xs at at ys zs)
-      (length-added xs at (xored 𝓐 ys zs))
-      (λ i l.
-      added-both xs at at ys zs i l
-      ∙ 𝓐 .assoc (getD xs i (𝓐 .none)) (letter (𝓐 .none) ys 0 (length ys) (i + 1 - at))
-      (letter (𝓐 .none) zs 0 (length zs) (i + 1 - at))
-      ∙ ap (𝓐 .plus (getD xs i (𝓐 .none))) (sym (letter-xored ys zs (i + 1 - at) h))
-      ∙ sym (added-at xs at (xored 𝓐 ys zs) i l))
-
   -- a run in two parts, one part after the other
   pub added-append :
       (xs : List A) (at : ℕ) (ys zs : List A) → added 𝓐 xs at (ys ++ zs) ≡ added 𝓐 (added 𝓐 xs at ys) (at + length ys) zs
@@ -229,11 +205,3 @@ module _ {A : Type 0} (𝓐 : Adding A) where
       ∙ rw (length-take-le i ys (omega arith)) (added-one (added 𝓐 xs at (take i ys)) (at + i) (getD ys i (𝓐 .none))))
 
 module _ {A : Type 0} (𝓛 : Letters A) where
-  -- adding a run twice is nothing
-  pub added-twice :
-      (xs : List A) (at : ℕ) (ys : List A) → added (𝓛 .adding) (added (𝓛 .adding) xs at ys) at ys ≡ xs
-  added-twice xs at ys =
-      agree (𝓛 .adding) xs (added (𝓛 .adding) (added (𝓛 .adding) xs at ys) at ys) xs (length-both (𝓛 .adding) xs at at ys ys) refl
-      (λ i l.
-      added-both (𝓛 .adding) xs at at ys ys i l
-      ∙ plus-twice 𝓛 (getD xs i (𝓛 .adding .none)) (letter (𝓛 .adding .none) ys 0 (length ys) (i + 1 - at)))

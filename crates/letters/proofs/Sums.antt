@@ -82,15 +82,6 @@ module _ {A : Type 0} (𝓐 : Adding A) where
       ∙ plus-right (sum 𝓐 n f) c (f (suc n)))
       (eq-or-lt-of-le hi)
 
-  -- all terms but one zero
-  pub sum-one :
-      (n u : ℕ) (f : ℕ → A) → 1 ≤ u → u ≤ n → ((i : ℕ) → 1 ≤ i → i ≤ n → (i ≡ u → ⊥) → f i ≡ 𝓐 .none)
-      → sum 𝓐 n f ≡ f u
-  sum-one n u f lo hi h =
-      sum-change n u (λ i. 𝓐 .none) f (f u) lo hi (sym (none-plus (f u))) h
-      ∙ ap (λ x. 𝓐 .plus x (f u)) (sum-none n (λ i. 𝓐 .none) (λ i l r. refl))
-      ∙ none-plus (f u)
-
   -- a sum in two parts
   pub sum-split :
       (n m : ℕ) (f : ℕ → A) → sum 𝓐 (n + m) f ≡ 𝓐 .plus (sum 𝓐 n f) (sum 𝓐 m (λ i. f (n + i)))

@@ -1,5 +1,5 @@
 -- A map of letters that takes sums to sums goes through runs, lists one after another, sequences, sums of moved sequences and the system's parts.
-use mathlib.Core.Path.{_≡_, refl, ap, ap₂, _∙_}
+use mathlib.Core.Path.{_≡_, refl, ap, _∙_}
 use mathlib.Core.List.{List, [], _∷_, _++_, map}
 use Prim.Native.Nat.{ℕ, zero, suc, _+_, _-_, _*_}
 use Rattle.letters.specs.Algebra.{Adding}

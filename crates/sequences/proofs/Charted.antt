@@ -1,5 +1,5 @@
 -- Rows of shifts of some nodes are what the solver wants, under any rule with refined increasing differences: falling ids give them their order.
-use mathlib.Core.Path.{_≡_, refl, sym, ap, ap₂, _∙_}
+use mathlib.Core.Path.{_≡_, refl, ap, ap₂, _∙_}
 use mathlib.Core.List.{List}
 use Prim.Native.Nat.{ℕ, _+_, _-_, _*_, _/_, _%_, _^_, _≤_}
 use native.Mathlib.Omega.{arith}
@@ -9,10 +9,10 @@ use Rattle.letters.specs.Worth.{worthOf}
 use Rattle.letters.proofs.Sums.{sum-same}
 use Rattle.shifts.specs.Rule.{ShiftRule, Refined}
 use Rattle.solving.specs.System.{part}
-use Rattle.solving.specs.Order.{Falling, Ordered, ruled}
+use Rattle.solving.specs.Order.{Falling, ruled}
 use Rattle.solving.specs.Count.{taken, ofEquation, additions, other, within}
 use Rattle.solving.specs.Solver.{shiftIn, Solvable}
-use Rattle.solving.proofs.Order.{falling-ordered, ordered-same, ordered-fewer}
+use Rattle.solving.proofs.Ruled.{ruled-solvable}
 use Rattle.solving.proofs.System.{part-shifts}
 use Rattle.sequences.specs.Lists.{ranked}
 use Rattle.sequences.specs.Steps.Rows.{RowsOf}
@@ -57,25 +57,14 @@ module _ (rule : ShiftRule) (ids rows : List ℕ) (r : RowsOf rule ids rows) whe
     same : (b a : ℕ) → 1 ≤ b → b ≤ s → 1 ≤ a → a ≤ s → shiftIn rows b a ≡ ruled rule (ranked ids) b a
     same b a lb hb la ha = rows-shift b a lb (omega (arith, ranks .many)) la (omega (arith, ranks .few))
 
-    order : Ordered wanted (ruled rule (ranked ids))
-    order = falling-ordered rule (ranks .refined) wanted (ranked ids) (ranks .falling)
-
     pub solvable : (n : ℕ) → 1 ≤ n → n ≤ 2 ^ 32 → Solvable s n rows
     solvable n ln hn =
-        record {
-          some-letters = ln;
-          few-letters = hn;
-          shifts =
-              record {
-                some-nodes = some;
-                few-nodes = omega (arith, ranks .few);
-                sixteen-rows = r .size;
-                small = λ b a lb hb la ha. omega (arith, same b a lb hb la ha, ranks .small b a lb (omega arith) la (omega arith));
-              };
-          ordered =
-              ordered-same (ruled rule (ranked ids)) (shiftIn rows) s (λ b a lb hb la ha. sym (same b a lb hb la ha))
-              (ordered-fewer (ruled rule (ranked ids)) wanted s fits order);
-        }
+        ruled-solvable s n rows rule (ranked ids) same (ranks .refined)
+        (record {
+          from-one = λ a lo hi. ranks .falling .from-one a lo (omega arith);
+          falls = λ a b lo h hb. ranks .falling .falls a b lo h (omega arith);
+        })
+        (λ b a lb hb la ha. ranks .small b a lb (omega arith) la (omega arith)) some (omega (arith, ranks .few)) ln hn (r .size)
 
     pub charted-part :
         (x : ℕ → ℕ → ℕ) (b p : ℕ) → 1 ≤ b → b ≤ s → part xors s (shiftIn rows) x b p ≡ part xors s (ruled rule (ranked ids)) x b p
