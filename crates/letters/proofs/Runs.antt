@@ -8,7 +8,7 @@ use native.Mathlib.Numerals.{add-one}
 use native.Mathlib.Omega.{arith}
 use lib.ListN.{length, getD, take, set, length-append, length-take, length-drop, List·getD-eq-default, List·getD-append}
 use lib.Seq.{ext-getD, getD-append-add, length-take-le, take-suc}
-use Rattle.letters.specs.Algebra.{Adding, Letters}
+use Rattle.letters.specs.Algebra.{Adding}
 use Rattle.letters.specs.Places.{letter}
 use Rattle.letters.specs.Runs.{xored, added}
 use Rattle.letters.proofs.Cases.{le-or-lt}
@@ -203,5 +203,3 @@ module _ {A : Type 0} (𝓐 : Adding A) where
       rw (add-one, take-suc ys i (𝓐 .none))
       (added-append xs at (take i ys) (getD ys i (𝓐 .none) ∷ [])
       ∙ rw (length-take-le i ys (omega arith)) (added-one (added 𝓐 xs at (take i ys)) (at + i) (getD ys i (𝓐 .none))))
-
-module _ {A : Type 0} (𝓛 : Letters A) where

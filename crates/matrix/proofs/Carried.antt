@@ -10,7 +10,7 @@ use Rattle.letters.specs.Algebra.{Adding, xors, bytes, bits}
 use Rattle.letters.specs.Lanes.{Bytes, lane, Carries}
 use Rattle.letters.proofs.Carried.{letter-carried, lastByte, last-carries, lane-carries, bytes-kept, kept-bytes}
 use Rattle.shifts.specs.Rule.{t}
-use Rattle.solving.specs.System.{part, sequence}
+use Rattle.system.specs.System.{part, sequence}
 use Rattle.group.specs.declared.Group.{Group}
 use Rattle.group.specs.Lengths.{fileLetters, packetLength, packetStart, repairLetters}
 use Rattle.sequences.specs.Lists.{run, joined, ranked}

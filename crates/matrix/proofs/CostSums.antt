@@ -8,9 +8,9 @@ use Rattle.letters.specs.Worth.{worthOf}
 use Rattle.letters.proofs.Sums.{sum-same}
 use Rattle.letters.proofs.Worth.{worthOf-is-one}
 use Rattle.shifts.specs.Rule.{t}
-use Rattle.solving.specs.System.{sequence}
-use Rattle.solving.specs.Count.{place, within, additions, cost}
-use Rattle.solving.proofs.Cost.{moved-inside, additions-cost}
+use Rattle.system.specs.System.{sequence}
+use Rattle.system.specs.Count.{place, within, additions, cost}
+use Rattle.system.proofs.Cost.{moved-inside, additions-cost}
 use Rattle.group.specs.declared.Group.{Group}
 use Rattle.group.specs.Lengths.{repairLetters}
 use Rattle.sequences.specs.Lists.{ranked}

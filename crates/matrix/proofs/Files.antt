@@ -6,8 +6,8 @@ use native.Mathlib.Nat.{add-mul, zero-mul, add-assoc}
 use native.Mathlib.Omega.{arith}
 use lib.ListN.{length, getD, take, drop, length-drop}
 use lib.Seq.{getD-take, getD-drop, length-take-le}
-use Rattle.solving.specs.System.{sequence}
-use Rattle.solving.proofs.System.{sequence-inside, index-below}
+use Rattle.system.specs.System.{sequence}
+use Rattle.system.proofs.System.{sequence-inside, index-below}
 use Rattle.group.specs.declared.Group.{Group}
 use Rattle.group.specs.Ranges.{InRange}
 use Rattle.group.specs.Lengths.{fileLetters}

@@ -9,7 +9,7 @@ use Rattle.letters.specs.Algebra.{Adding}
 use Rattle.letters.specs.Places.{letter}
 use Rattle.letters.specs.Runs.{xored}
 use Rattle.shifts.specs.Rule.{t}
-use Rattle.solving.specs.System.{sequence}
+use Rattle.system.specs.System.{sequence}
 use Rattle.group.specs.declared.Group.{Group}
 use Rattle.group.specs.Lengths.{packetLength, packetStart, repairLetters}
 use Rattle.sequences.specs.Lists.{joined, ranked}

@@ -15,8 +15,8 @@ use Rattle.letters.proofs.Places.{place-cases, letter-inside, letter-zero, lett
 use Rattle.letters.proofs.Sums.{sum-none, sum-more, sum-none-terms}
 use Rattle.shifts.specs.Rule.{t}
 use Rattle.shifts.proofs.Rule.{refined}
-use Rattle.solving.specs.System.{sequence, Sequences}
-use Rattle.solving.proofs.System as system
+use Rattle.system.specs.System.{sequence, Sequences}
+use Rattle.system.proofs.System as system
 use Rattle.group.specs.declared.Group.{Group}
 use Rattle.group.specs.Lengths.{packetLength, packetStart, nodeLetters}
 use Rattle.group.proofs.Sizes.{packet-start}

@@ -10,10 +10,10 @@ use Rattle.letters.proofs.Cases.{le-or-lt}
 use Rattle.letters.proofs.Sums.{sum-same, sum-split, sum-none, plus-cancel}
 use Rattle.shifts.specs.Rule.{t}
 use Rattle.shifts.proofs.Rule.{refined}
-use Rattle.solving.specs.System.{part}
-use Rattle.solving.specs.Order.{Ordered, ruled}
-use Rattle.solving.proofs.Order.{falling-ordered, ordered-fewer}
-use Rattle.solving.proofs.OneSolution.{one-solution}
+use Rattle.system.specs.System.{part}
+use Rattle.system.specs.Order.{Ordered, ruled}
+use Rattle.system.proofs.Order.{falling-ordered, ordered-fewer}
+use Rattle.system.proofs.OneSolution.{one-solution}
 use Rattle.group.specs.declared.Group.{Group}
 use Rattle.group.specs.Lengths.{fileLetters}
 use Rattle.sequences.specs.Lists.{ranked}

@@ -10,10 +10,10 @@ use Rattle.letters.specs.Places.{letter}
 use Rattle.letters.proofs.Places.{place-cases}
 use Rattle.letters.proofs.Sums.{sum-same, sum-swap}
 use Rattle.shifts.specs.Rule.{t}
-use Rattle.solving.specs.System.{part, sequence, Sequences}
-use Rattle.solving.proofs.OneSolution.{one-solution}
-use Rattle.solving.proofs.SomeSolution.{solution, solved, solves}
-use Rattle.solving.proofs.System as system
+use Rattle.system.specs.System.{part, sequence, Sequences}
+use Rattle.system.proofs.OneSolution.{one-solution}
+use Rattle.system.proofs.SomeSolution.{solution, solved, solves}
+use Rattle.system.proofs.System as system
 use Rattle.group.specs.declared.Group.{Group}
 use Rattle.group.specs.Ranges.{NodeOf}
 use Rattle.group.specs.Lengths.{packetLength, nodeLetters, repairLetters, repairBuffer}

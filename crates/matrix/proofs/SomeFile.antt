@@ -12,10 +12,10 @@ use Rattle.letters.specs.Algebra.{Letters, sum}
 use Rattle.letters.proofs.Cases.{le-or-lt}
 use Rattle.letters.proofs.Places.{place-cases}
 use Rattle.letters.proofs.Sums.{sum-same, plus-twice}
-use Rattle.solving.specs.System.{part, sequence, Sequences}
-use Rattle.solving.proofs.Settles.{settled, settles}
-use Rattle.solving.proofs.SomeSolution.{solution, solved, solves}
-use Rattle.solving.proofs.System.{part-same}
+use Rattle.system.specs.System.{part, sequence, Sequences}
+use Rattle.system.proofs.Settles.{settled, settles}
+use Rattle.system.proofs.SomeSolution.{solution, solved, solves}
+use Rattle.system.proofs.System.{part-same}
 use Rattle.group.specs.declared.Group.{Group}
 use Rattle.group.specs.Lengths.{fileLetters}
 use Rattle.matrix.specs.Matrix.{entryNumber, asFile, matrix}

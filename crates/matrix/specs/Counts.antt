@@ -4,9 +4,9 @@ use Prim.Native.Nat.{ℕ, _+_, _-_, min}
 use Rattle.letters.specs.Algebra.{xors, counts, sum}
 use Rattle.letters.specs.Worth.{worthOf}
 use Rattle.shifts.specs.Rule.{t}
-use Rattle.solving.specs.System.{sequence}
-use Rattle.solving.specs.Order.{ruled}
-use Rattle.solving.specs.Count.{place, within, additions, cost}
+use Rattle.system.specs.System.{sequence}
+use Rattle.system.specs.Order.{ruled}
+use Rattle.system.specs.Count.{place, within, additions, cost}
 use Rattle.group.specs.declared.Group.{Group}
 use Rattle.group.specs.Lengths.{repairLetters}
 use Rattle.sequences.specs.Lists.{ranked}

@@ -5,7 +5,7 @@ use Prim.Native.Nat.{ℕ, _+_, _-_, _*_, _/_, _≤_, min, max}
 use lib.Dec.{leb}
 use Rattle.letters.specs.Algebra.{Adding}
 use Rattle.shifts.specs.Rule.{t}
-use Rattle.solving.specs.System.{sequence}
+use Rattle.system.specs.System.{sequence}
 use Rattle.group.specs.declared.Group.{Group}
 use Rattle.group.specs.Ranges.{InRange}
 use Rattle.group.specs.Lengths.{packetLength}

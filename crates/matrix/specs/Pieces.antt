@@ -5,7 +5,7 @@ use Prim.Native.Nat.{ℕ, _+_, _≤_}
 use lib.ListN.{length, take, drop}
 use Rattle.letters.specs.Algebra.{Adding}
 use Rattle.shifts.specs.Rule.{t}
-use Rattle.solving.specs.Order.{Falling}
+use Rattle.system.specs.Order.{Falling}
 use Rattle.group.specs.declared.Group.{Group}
 use Rattle.group.specs.Ranges.{InRange}
 use Rattle.group.specs.Lengths.{packetStart}

@@ -4,8 +4,8 @@ use Prim.Native.Nat.{ℕ, _+_}
 use Rattle.letters.specs.Algebra.{Adding}
 use Rattle.letters.specs.Places.{letter}
 use Rattle.shifts.specs.Rule.{t}
-use Rattle.solving.specs.System.{part, sequence}
-use Rattle.solving.specs.Order.{ruled}
+use Rattle.system.specs.System.{part, sequence}
+use Rattle.system.specs.Order.{ruled}
 use Rattle.group.specs.declared.Group.{Group}
 use Rattle.group.specs.Lengths.{packetLength, packetStart, repairLetters}
 use Rattle.sequences.specs.Lists.{run, joined, ranked}

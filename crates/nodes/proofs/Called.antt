@@ -18,7 +18,7 @@ use Rattle.group.proofs.Sizes.{packet-fits, node-at-most}
 use Rattle.group.proofs.Refusals.{numbered, refuses, gives, first-none, first-fine, unless-none, both-true}
 use Rattle.group.proofs.InRange.{between-true, in-range, range-in, node-of, of-node}
 use Rattle.nodes.specs.Calls.{Called, helperRefusal, placeRefusal, pieceRefusal, entryRefusal}
-use Rattle.nodes.specs.Steps.{Helper}
+use Rattle.nodes.specs.Steps.Checked.{Helper}
 use Rattle.matrix.specs.Matrix.{Free}
 use Rattle.matrix.proofs.Product.{shift-rises}
 

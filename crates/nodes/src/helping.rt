@@ -13,7 +13,7 @@ ghost use Rattle.group.specs.Ranges.{NodeOf};
 ghost use Rattle.group.specs.Lengths.{packetLength, nodeLetters, repairLetters};
 ghost use Rattle.matrix.specs.Repair.{helping};
 ghost use Rattle.nodes.specs.Calls.{helperRefusal, Helped};
-ghost use Rattle.nodes.specs.Steps.{Helper};
+ghost use Rattle.nodes.specs.Steps.Checked.{Helper};
 
 // Fills `piece` with what the helper of this rank sends for the lost node: letters t(h,u)+1 .. t(h,u)+L' of r, the sum of its packets
 // each moved right by the lost node's shift. `packets` has exactly the helper's T letters (else 5) and `piece` exactly L' (else 6).

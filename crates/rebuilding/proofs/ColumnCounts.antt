@@ -7,7 +7,7 @@ use native.Mathlib.Omega.{arith}
 use Rattle.letters.specs.Algebra.{Adding, xors, counts, sum}
 use Rattle.letters.specs.Worth.{worthOf}
 use Rattle.letters.proofs.Sums.{none-plus, sum-same, sum-plus, sum-split, sum-none-terms}
-use Rattle.solving.specs.Count.{within, additions}
+use Rattle.system.specs.Count.{within, additions}
 use Rattle.group.specs.declared.Group.{Group}
 use Rattle.sequences.proofs.Charted.{additions-same}
 use Rattle.matrix.specs.Matrix.{matrix}

@@ -14,10 +14,10 @@ use Rattle.letters.proofs.Places.{inside-below}
 use Rattle.letters.proofs.Sums.{sum-same, sum-none, sum-more, sum-none-terms}
 use Rattle.letters.proofs.Worth.{worth-at-most}
 use Rattle.shifts.specs.Rule.{t}
-use Rattle.solving.specs.System.{sequence}
-use Rattle.solving.specs.Count.{within}
+use Rattle.system.specs.System.{sequence}
+use Rattle.system.specs.Count.{within}
 use Rattle.solving.specs.Solver.{shiftIn}
-use Rattle.solving.proofs.System.{sequences}
+use Rattle.system.proofs.System.{sequences}
 use Rattle.group.specs.declared.Group.{Group}
 use Rattle.group.specs.Ranges.{longest}
 use Rattle.sequences.specs.Lists.{ranked}

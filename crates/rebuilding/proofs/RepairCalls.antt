@@ -7,7 +7,7 @@ use lib.Dec.{eqb}
 use lib.ListN.{length}
 use borrow.Author.Tests.{eqb-true}
 use Rattle.letters.specs.Algebra.{xors}
-use Rattle.solving.specs.System.{part, sequence}
+use Rattle.system.specs.System.{part, sequence}
 use Rattle.solving.specs.Solver.{Solved}
 use Rattle.shifts.specs.Rule.{t}
 use Rattle.group.specs.declared.Group.{Group}

@@ -17,10 +17,10 @@ use Rattle.letters.proofs.Cases.{le-or-lt}
 use Rattle.letters.proofs.Places.{letter-same}
 use Rattle.letters.proofs.Sums.{sum-same, sum-at-most}
 use Rattle.letters.proofs.Worth.{worthOf-at-most}
-use Rattle.solving.specs.System.{sequence}
-use Rattle.solving.specs.Count.{within, taken, ofEquation, additions}
+use Rattle.system.specs.System.{sequence}
+use Rattle.system.specs.Count.{within, taken, ofEquation, additions}
 use Rattle.solving.specs.Solver.{shiftIn, Solved}
-use Rattle.solving.proofs.System.{part-same, index-below}
+use Rattle.system.proofs.System.{part-same, index-below}
 use Rattle.shifts.specs.Rule.{t}
 use Rattle.group.specs.declared.Group.{Group}
 use Rattle.group.specs.Ranges.{longest}

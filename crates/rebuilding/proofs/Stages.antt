@@ -10,8 +10,8 @@ use Rattle.letters.specs.Algebra.{Adding, bytes, xors, counts, sum}
 use Rattle.letters.specs.Worth.{worthOf}
 use Rattle.letters.proofs.Cases.{le-or-lt, eq-or-ne}
 use Rattle.letters.proofs.Sums.{sum-same, sum-none, sum-none-terms, plus-twice}
-use Rattle.solving.specs.Count.{within}
-use Rattle.solving.proofs.System.{part-same}
+use Rattle.system.specs.Count.{within}
+use Rattle.system.proofs.System.{part-same}
 use Rattle.group.specs.declared.Group.{Group}
 use Rattle.matrix.specs.Matrix.{matrix}
 use Rattle.matrix.specs.Pieces.{pieceLetter, reading}

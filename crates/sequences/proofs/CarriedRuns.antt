@@ -6,7 +6,7 @@ use Rattle.letters.specs.Algebra.{Adding}
 use Rattle.letters.specs.Lanes.{Carries}
 use Rattle.letters.proofs.Carried.{sum-carried, letter-carried}
 use Rattle.letters.proofs.Sums.{sum-same}
-use Rattle.solving.specs.System.{part, sequence}
+use Rattle.system.specs.System.{part, sequence}
 use Rattle.sequences.specs.Lists.{run, joined}
 use Rattle.sequences.specs.Moved.{moved}
 

@@ -8,12 +8,12 @@ use Rattle.letters.specs.Algebra.{xors, counts, sum}
 use Rattle.letters.specs.Worth.{worthOf}
 use Rattle.letters.proofs.Sums.{sum-same}
 use Rattle.shifts.specs.Rule.{ShiftRule, Refined}
-use Rattle.solving.specs.System.{part}
-use Rattle.solving.specs.Order.{Falling, ruled}
-use Rattle.solving.specs.Count.{taken, ofEquation, additions, other, within}
+use Rattle.system.specs.System.{part}
+use Rattle.system.specs.Order.{Falling, ruled}
+use Rattle.system.specs.Count.{taken, ofEquation, additions, other, within}
 use Rattle.solving.specs.Solver.{shiftIn, Solvable}
 use Rattle.solving.proofs.Ruled.{ruled-solvable}
-use Rattle.solving.proofs.System.{part-shifts}
+use Rattle.system.proofs.System.{part-shifts}
 use Rattle.sequences.specs.Lists.{ranked}
 use Rattle.sequences.specs.Steps.Rows.{RowsOf}
 

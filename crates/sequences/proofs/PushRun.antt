@@ -17,9 +17,9 @@ use Rattle.letters.proofs.Places.{place-cases, inside-true, inside-below, lette
 use Rattle.letters.proofs.Runs.{length-added, added-at, added-before, added-after}
 use Rattle.letters.proofs.Sums.{sum-same, sum-none, sum-split}
 use Rattle.letters.proofs.Worth.{worth-append}
-use Rattle.solving.specs.System.{sequence}
-use Rattle.solving.specs.Count.{within}
-use Rattle.solving.proofs.System.{sequence-inside, sequences}
+use Rattle.system.specs.System.{sequence}
+use Rattle.system.specs.Count.{within}
+use Rattle.system.proofs.System.{sequence-inside, sequences}
 
 -- a run of fewer letters has the same letters at its places
 letter-longer : (xs : List ℕ) (s n m p : ℕ) → p ≤ n → n ≤ m → letter 0 xs s n p ≡ letter 0 xs s m p

@@ -5,8 +5,8 @@ use Prim.Native.Nat.{ℕ, _+_, _-_, _*_, _≤_, _<_}
 use native.Mathlib.Nat.{add-mul, zero-mul, one-mul}
 use native.Mathlib.Omega.{arith}
 use lib.ListN.{length, getD}
-use Rattle.solving.specs.System.{sequence}
-use Rattle.solving.proofs.System.{sequence-inside}
+use Rattle.system.specs.System.{sequence}
+use Rattle.system.proofs.System.{sequence-inside}
 use Rattle.sequences.specs.Lists.{run, joined}
 use Rattle.sequences.proofs.Lists.{length-run, getD-run, ListStarts, length-joined, getD-joined, is-joined}
 

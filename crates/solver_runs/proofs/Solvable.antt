@@ -6,7 +6,7 @@ use native.Mathlib.Omega.{arith}
 use lib.Arith.{digits-div, digits-mod}
 use Rattle.shifts.specs.Rule.{t}
 use Rattle.shifts.proofs.Rule.{refined, at-most}
-use Rattle.solving.specs.Order.{Falling}
+use Rattle.system.specs.Order.{Falling}
 use Rattle.solving.specs.Solver.{shiftIn, Solvable}
 use Rattle.solving.proofs.Ruled.{ruled-solvable}
 use Rattle.solver_runs.specs.Consecutive.{Consecutive, Sized}

@@ -7,13 +7,13 @@ use native.Mathlib.Nat.{add-zero, add-assoc, eq-or-lt-of-le}
 use native.Mathlib.Omega.{arith}
 use lib.Bits.{bitXor}
 use lib.ListN.{length, set, length-set}
-use Rattle.solving.specs.System.{sequence}
-use Rattle.solving.specs.Order.{delay}
-use Rattle.solving.specs.Count.{ofEquation}
+use Rattle.system.specs.System.{sequence}
+use Rattle.system.specs.Order.{delay}
+use Rattle.system.specs.Count.{ofEquation}
 use Rattle.solving.specs.Solver.{shiftIn, Solvable, Solved}
-use Rattle.solving.specs.Steps.{time, others, Taken, Upto, Advanced}
+use Rattle.solving.specs.Steps.Rounds.{time, others, Taken, Upto, Advanced}
 use Rattle.solving.proofs.Steps.{idle, begun, ended, step}
-use Rattle.solving.proofs.System.{indexOf, index-below, sequence-stored, sequence-kept}
+use Rattle.system.proofs.System.{indexOf, index-below, sequence-stored, sequence-kept}
 
 module _ (s n : ℕ) (rows : List ℕ) where
   -- one step after another

@@ -5,10 +5,10 @@ use Prim.Native.Nat.{ℕ, zero, suc, _+_, _-_, _*_, _≤_, _<_}
 use native.Mathlib.Omega.{arith}
 use lib.ListN.{length, getD, set}
 use lib.Seq.{getD-set-same, getD-set-other}
-use Rattle.solving.specs.Order.{delay}
+use Rattle.system.specs.Order.{delay}
 use Rattle.solving.specs.Solver.{shiftIn, Rows}
-use Rattle.solving.specs.Steps.{Delays}
-use Rattle.solving.proofs.Order.{delay-first, delay-more, one-more}
+use Rattle.solving.specs.Steps.Rounds.{Delays}
+use Rattle.system.proofs.Order.{delay-first, delay-more, one-more}
 
 -- at most 65535 rounds for each rank
 pub delay-small : (s : ℕ) (rows : List ℕ) → Rows s rows → (u : ℕ) → u ≤ s → delay (shiftIn rows) u ≤ 65535 * u

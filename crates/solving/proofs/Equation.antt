@@ -16,12 +16,12 @@ use Rattle.letters.proofs.Cases.{eq-or-ne}
 use Rattle.letters.proofs.Places.{place-cases}
 use Rattle.letters.proofs.Sums.{sum-more, sum-none-terms}
 use Rattle.letters.proofs.Worth.{worthOf-is-one}
-use Rattle.solving.specs.System.{sequence, Sequences}
-use Rattle.solving.specs.Count.{place, other, within, taken, ofEquation}
+use Rattle.system.specs.System.{sequence, Sequences}
+use Rattle.system.specs.Count.{place, other, within, taken, ofEquation}
 use Rattle.solving.specs.Solver.{shiftIn}
-use Rattle.solving.specs.Steps.{others, Taken}
-use Rattle.solving.proofs.System.{sequences, sequence-after, index-after}
-use Rattle.solving.proofs.Within.{within-inside, within-below, within-above, other-same, other-apart}
+use Rattle.solving.specs.Steps.Rounds.{others, Taken}
+use Rattle.system.proofs.System.{sequences, sequence-after, index-after}
+use Rattle.system.proofs.Within.{within-inside, within-below, within-above, other-same, other-apart}
 
 module _ (n : ℕ) (t x : ℕ → ℕ → ℕ) (u q : ℕ) where
   -- of no sequences

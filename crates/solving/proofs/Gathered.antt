@@ -7,12 +7,12 @@ use lib.Bits.{bitXor}
 use lib.ListN.{length, getD}
 use Rattle.letters.specs.Algebra.{xors}
 use Rattle.letters.proofs.Sums.{sum-same, sum-more, sum-none-terms, none-plus}
-use Rattle.solving.specs.System.{part, sequence}
-use Rattle.solving.specs.Order.{delay}
-use Rattle.solving.specs.Count.{place}
+use Rattle.system.specs.System.{part, sequence}
+use Rattle.system.specs.Order.{delay}
+use Rattle.system.specs.Count.{place}
 use Rattle.solving.specs.Solver.{shiftIn}
-use Rattle.solving.specs.Steps.{Taken, Inside, Lead, Starts, gathered}
-use Rattle.solving.proofs.System.{indexOf, index-below, sequence-inside}
+use Rattle.solving.specs.Steps.Rounds.{Taken, AllInside, Lead, Starts, gathered}
+use Rattle.system.proofs.System.{indexOf, index-below, sequence-inside}
 use Rattle.solving.proofs.Whole.{taken-whole}
 
 module _ (starts buffer : List ℕ) (u step : ℕ) where
@@ -29,7 +29,7 @@ module _ (starts buffer : List ℕ) (u step : ℕ) where
   gathered-more m = sum-more xors m (λ a. getD buffer (shiftIn starts u a + step) 0)
 
 module _ (s n : ℕ) (rows starts buffer : List ℕ) (lead r u q : ℕ) (are : Starts s n rows lead starts) (late : Lead s rows lead) (lu : 1 ≤ u) (hu : u ≤ s)
-    (lr : lead < r) (now : delay (shiftIn rows) u + q ≡ r) (inside : Inside s n rows u q) where
+    (lr : lead < r) (now : delay (shiftIn rows) u + q ≡ r) (inside : AllInside s n rows u q) where
   -- the index is that of the letter which the equation reads
   index-is : (a : ℕ) → 1 ≤ a → a ≤ s → shiftIn starts u a + (r - lead - 1) ≡ indexOf n a (place (shiftIn rows) u q a)
   index-is a la ha = omega (arith, are .each u a lu hu la ha, late u a lu hu la ha)

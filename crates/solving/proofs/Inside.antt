@@ -5,11 +5,11 @@ use mathlib.Core.Logic.{⊎-elim}
 use Prim.Native.Nat.{ℕ, _+_, _-_, _≤_, _<_}
 use native.Mathlib.Omega.{arith}
 use Rattle.letters.proofs.Cases.{eq-or-ne}
-use Rattle.solving.specs.Order.{delay}
-use Rattle.solving.specs.Count.{place}
+use Rattle.system.specs.Order.{delay}
+use Rattle.system.specs.Count.{place}
 use Rattle.solving.specs.Solver.{shiftIn, Solvable}
-use Rattle.solving.specs.Steps.{Inside, Lead}
-use Rattle.solving.proofs.OneSolution.{earlier, own-place}
+use Rattle.solving.specs.Steps.Rounds.{AllInside, Lead}
+use Rattle.system.proofs.OneSolution.{earlier, own-place}
 
 module _ (s n : ℕ) (rows : List ℕ) (solvable : Solvable s n rows) (lead r u : ℕ) (late : Lead s rows lead) (lu : 1 ≤ u) (hu : u ≤ s)
     (lr : lead < r) (hr : r ≤ n) where
@@ -18,7 +18,7 @@ module _ (s n : ℕ) (rows : List ℕ) (solvable : Solvable s n rows) (lead r u 
   letter-inside = omega (arith, late u u lu hu lu hu)
 
   -- and so is every letter that its equation takes
-  pub reads-inside : (q : ℕ) → delay (shiftIn rows) u + q ≡ r → Inside s n rows u q
+  pub reads-inside : (q : ℕ) → delay (shiftIn rows) u + q ≡ r → AllInside s n rows u q
   reads-inside q now =
       record {
         from-one = λ a la ha. omega (arith, late u a lu hu la ha);

@@ -1,19 +1,11 @@
--- The theory of the system, which every crate above cites: its laws, its order, its one solution, its cost, the solver's one outcome, and all of it for the nodes of a group.
-pub mod System
-pub mod Order
-pub mod OneSolution
-pub mod Settles
-pub mod SomeSolution
-pub mod Cost
+-- Why the solver leaves the one solution, and counts its additions.
+pub mod Advance
+pub mod Delays
+pub mod Equation
+pub mod Gathered
+pub mod Inside
 pub mod Outcome
 pub mod Ruled
--- The solver's own steps, for the proofs of its functions alone.
-mod Within
-mod Signed
-mod Delays
-mod Equation
-mod Steps
-mod Advance
-mod Inside
-mod Whole
-mod Gathered
+pub mod Signed
+pub mod Steps
+pub mod Whole

@@ -7,11 +7,11 @@ use native.Mathlib.Omega.{arith}
 use lib.ListN.{length, getD}
 use lib.Seq.{ext-getD}
 use Rattle.letters.specs.Algebra.{bytes}
-use Rattle.solving.specs.System.{sequence}
-use Rattle.solving.specs.Count.{additions}
+use Rattle.system.specs.System.{sequence}
+use Rattle.system.specs.Count.{additions}
 use Rattle.solving.specs.Solver.{shiftIn, Solvable, Solved}
-use Rattle.solving.proofs.OneSolution.{one-solution}
-use Rattle.solving.proofs.System.{sequences, sequence-after}
+use Rattle.system.proofs.OneSolution.{one-solution}
+use Rattle.system.proofs.System.{sequences, sequence-after}
 
 -- two buffers of s sequences of n letters are the same if their sequences are
 pub buffer-same :

@@ -5,9 +5,9 @@ use Prim.Native.Nat.{ℕ, _^_, _≤_}
 use native.Mathlib.Omega.{arith}
 use lib.ListN.{length}
 use Rattle.shifts.specs.Rule.{ShiftRule, Refined}
-use Rattle.solving.specs.Order.{Falling, ruled}
+use Rattle.system.specs.Order.{Falling, ruled}
 use Rattle.solving.specs.Solver.{shiftIn, Solvable}
-use Rattle.solving.proofs.Order.{falling-ordered, ordered-same}
+use Rattle.system.proofs.Order.{falling-ordered, ordered-same}
 
 -- the rows hold the shifts of the nodes of these ids
 abbrev pub RowsHold : ℕ → List ℕ → ShiftRule → (ℕ → ℕ) → Type 0

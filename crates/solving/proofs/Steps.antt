@@ -12,14 +12,14 @@ use Rattle.letters.specs.Algebra.{xors, bytes, counts, sum}
 use Rattle.letters.specs.Worth.{worthOf}
 use Rattle.letters.proofs.Cases.{le-or-lt, eq-or-ne}
 use Rattle.letters.proofs.Sums.{sum-same, sum-none, sum-change, none-plus, plus-twice}
-use Rattle.solving.specs.System.{part}
-use Rattle.solving.specs.Order.{delay, Ordered}
-use Rattle.solving.specs.Count.{place, other, within, taken, ofEquation, additions}
-use Rattle.solving.specs.Steps.{time, others, tally, Upto}
-use Rattle.solving.proofs.OneSolution.{earlier, own-place}
-use Rattle.solving.proofs.System.{part-same}
+use Rattle.system.specs.System.{part}
+use Rattle.system.specs.Order.{delay, Ordered}
+use Rattle.system.specs.Count.{place, other, within, taken, ofEquation, additions}
+use Rattle.solving.specs.Steps.Rounds.{time, others, tally, Upto}
+use Rattle.system.proofs.OneSolution.{earlier, own-place}
+use Rattle.system.proofs.System.{part-same}
 use Rattle.solving.proofs.Whole.{part-own}
-use Rattle.solving.proofs.Within.{other-same}
+use Rattle.system.proofs.Within.{other-same}
 
 -- an equation's worth reads the letters of the other sequences alone
 equation-same :

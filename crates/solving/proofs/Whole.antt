@@ -10,12 +10,12 @@ use borrow.Author.Tests.{eq-eqb, ne-eqb}
 use Rattle.letters.specs.Algebra.{xors, counts, sum}
 use Rattle.letters.proofs.Sums.{sum-change, none-plus}
 use Rattle.letters.proofs.Worth.{worthOf-is-one}
-use Rattle.solving.specs.System.{part, sequence}
-use Rattle.solving.specs.Count.{place, taken, ofEquation}
+use Rattle.system.specs.System.{part, sequence}
+use Rattle.system.specs.Count.{place, taken, ofEquation}
 use Rattle.solving.specs.Solver.{shiftIn}
-use Rattle.solving.specs.Steps.{others, Taken, Inside}
-use Rattle.solving.proofs.OneSolution.{own-place}
-use Rattle.solving.proofs.Within.{within-inside, other-same, other-apart}
+use Rattle.solving.specs.Steps.Rounds.{others, Taken, AllInside}
+use Rattle.system.proofs.OneSolution.{own-place}
+use Rattle.system.proofs.Within.{within-inside, other-same, other-apart}
 
 -- a sum of ones
 ones : (n : ℕ) → sum counts n (λ i. 1) ≡ n
@@ -38,7 +38,7 @@ module _ (t x : ℕ → ℕ → ℕ) (u q : ℕ) where
       theirs : (a v : ℕ) → (a ≡ u → ⊥) → cond (eqb a u) 0 v ≡ v
       theirs a v ne = rw (ne-eqb a u ne) refl
 
-module _ (s n : ℕ) (rows buffer : List ℕ) (u q : ℕ) (lu : 1 ≤ u) (hu : u ≤ s) (inside : Inside s n rows u q) where
+module _ (s n : ℕ) (rows buffer : List ℕ) (u q : ℕ) (lu : 1 ≤ u) (hu : u ≤ s) (inside : AllInside s n rows u q) where
   -- all but its own are taken
   all-taken : ofEquation s n (shiftIn rows) (sequence 0 buffer n) u q + 1 ≡ s
   unfolding ofEquation taken

@@ -1,6 +1,3 @@
--- The system that recovery and repair solve, its order, its cost, and the solver's contract.
-pub mod System
-pub mod Order
-pub mod Count
+-- The solver's contract.
 pub mod Solver
 pub mod Steps

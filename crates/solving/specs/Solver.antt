@@ -4,9 +4,9 @@ use mathlib.Core.List.{List}
 use Prim.Native.Nat.{ℕ, _+_, _-_, _*_, _^_, _≤_}
 use lib.ListN.{length, getD}
 use Rattle.letters.specs.Algebra.{xors}
-use Rattle.solving.specs.System.{part, sequence}
-use Rattle.solving.specs.Order.{Ordered}
-use Rattle.solving.specs.Count.{additions}
+use Rattle.system.specs.System.{part, sequence}
+use Rattle.system.specs.Order.{Ordered}
+use Rattle.system.specs.Count.{additions}
 
 -- The shift of the node of rank b at column a, in a matrix of rows of sixteen.
 unfoldable pub shiftIn : List ℕ → ℕ → ℕ → ℕ

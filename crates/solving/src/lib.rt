@@ -7,7 +7,7 @@ ghost use mathlib.Core.Path.{_≡_};
 ghost use Prim.Native.Nat.{_+_, _*_, _^_, _≤_, _<_};
 ghost use lib.ListN.{length};
 ghost use Rattle.solving.specs.Solver.{Solvable, Solved};
-ghost use Rattle.solving.specs.Steps.{Advanced, Delays, Lead, Starts};
+ghost use Rattle.solving.specs.Steps.Rounds.{Advanced, Delays, Lead, Starts};
 
 // Solves the system of `s` equations over `s` sequences of `n` letters each. `part` holds the s pieces one after another and is left with
 // the s sequences in their place; `rows` has the shift of the node of rank b at column a at index (b - 1) * 16 + (a - 1).

@@ -2,7 +2,7 @@
 ghost use mathlib.Core.Path.{_≡_};
 ghost use Prim.Native.Nat.{ℕ, _+_, _-_, _^_, _≤_};
 ghost use lib.ListN.{length};
-ghost use Rattle.solving.specs.Count.{other, within};
+ghost use Rattle.system.specs.Count.{other, within};
 ghost use Rattle.solving.specs.Solver.{shiftIn};
 
 // The place that letter `q` of a piece reads in a sequence, or 0 where that place is outside 1..n. Seen from the sequence the piece lies at

@@ -2,7 +2,7 @@
 ghost use mathlib.Core.Path.{_≡_};
 ghost use Prim.Native.Nat.{ℕ, _^_, _≤_};
 ghost use Rattle.solving.specs.Solver.{shiftIn, Rows};
-ghost use Rattle.solving.specs.Steps.{Delays, Lead, Starts, startOf};
+ghost use Rattle.solving.specs.Steps.Rounds.{Delays, Lead, Starts, startOf};
 use crate::place;
 
 // The delays of the s ranks.

@@ -2,9 +2,9 @@
 ghost use mathlib.Core.Path.{_≡_};
 ghost use Prim.Native.Nat.{ℕ, _+_, _-_, _*_, _≤_, _<_};
 ghost use lib.ListN.{length, set};
-ghost use Rattle.solving.specs.System.{sequence};
+ghost use Rattle.system.specs.System.{sequence};
 ghost use Rattle.solving.specs.Solver.{shiftIn, Solvable};
-ghost use Rattle.solving.specs.Steps.{Taken, gathered};
+ghost use Rattle.solving.specs.Steps.Rounds.{Taken, gathered};
 use crate::place;
 
 // A letter once its equation has taken what it takes, and what the additions count.

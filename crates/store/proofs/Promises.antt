@@ -12,8 +12,8 @@ use borrow.Author.Tests.{eqb-true}
 use denote.Ref.{now}
 use Rattle.letters.specs.Algebra.{bytes, xors}
 use Rattle.letters.specs.Runs.{xored}
-use Rattle.solving.specs.System.{sequence}
-use Rattle.solving.proofs.System.{sequence-inside}
+use Rattle.system.specs.System.{sequence}
+use Rattle.system.proofs.System.{sequence-inside}
 use Rattle.group.specs.declared.Group.{Group}
 use Rattle.group.specs.declared.Answer.{Answer}
 use Rattle.group.specs.Answers.{numberOf, valueOf, Answers}

@@ -7,9 +7,9 @@ use lib.ListN.{length}
 use Rattle.letters.specs.Algebra.{xors, counts, sum}
 use Rattle.letters.specs.Worth.{worthOf}
 use Rattle.shifts.specs.Rule.{t}
-use Rattle.solving.specs.System.{sequence, part}
-use Rattle.solving.specs.Order.{ruled}
-use Rattle.solving.specs.Count.{within, additions}
+use Rattle.system.specs.System.{sequence, part}
+use Rattle.system.specs.Order.{ruled}
+use Rattle.system.specs.Count.{within, additions}
 use Rattle.group.specs.declared.Group.{Group}
 use Rattle.group.specs.Ranges.{longest}
 use Rattle.group.specs.Lengths.{fileLetters}

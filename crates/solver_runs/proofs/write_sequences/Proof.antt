@@ -1,7 +1,7 @@
 -- `solver_runs::write_sequences` meets its contract: the start of each sequence lies within the letters.
 use Prim.Native.Nat.{_+_, _-_, _*_, _≤_}
 use native.Mathlib.Omega.{arith}
-use Rattle.solving.proofs.System.{index-after}
+use Rattle.system.proofs.System.{index-after}
 use lib.ListN.{length}
 use Rattle.solver_runs.proofs.write_sequences.Statement.{statement}
 use Rattle.solver_runs.proofs.write_sequences.Tie as tie

@@ -4,9 +4,9 @@ use Prim.Native.Nat.{ℕ, _+_, _-_, _≤_, _<_}
 use native.Mathlib.Omega.{arith}
 use lib.ListN.{getD}
 use borrow.Author.Needs.{needs}
-use Rattle.solving.specs.Order.{delay}
+use Rattle.system.specs.Order.{delay}
 use Rattle.solving.specs.Solver.{shiftIn}
-use Rattle.solving.specs.Steps.{Inside}
+use Rattle.solving.specs.Steps.Rounds.{AllInside}
 use Rattle.solving.proofs.Advance.{turn-letter}
 use Rattle.solving.proofs.Gathered.{starts-in, taken-gathered}
 use Rattle.solving.proofs.Inside.{letter-inside, reads-inside}
@@ -32,7 +32,7 @@ module _ (c : tie.Start) where
       let w = letter-inside (a .s) (a .n) (a .rows .now) (c .pre .0) (a .lead) (a .r) (a .u) (turn .2) (turn .0) (turn .1) (turn .4) (turn .5) in
       omega (arith, wait-is c)
 
-  all-inside : Inside (c .args .s) (c .args .n) (c .args .rows .now) (c .args .u) q
+  all-inside : AllInside (c .args .s) (c .args .n) (c .args .rows .now) (c .args .u) q
   all-inside =
       let a = c .args in
       let turn = c .pre .1 .1 .1 in

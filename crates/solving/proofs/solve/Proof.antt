@@ -3,12 +3,12 @@ use mathlib.Core.Path.{_≡_, refl, subst, sym, _∙_}
 use Prim.Native.Nat.{ℕ, _≤_, _+_, _-_, _*_, _^_}
 use native.Mathlib.Omega.{arith}
 use lib.ListN.{length, getD}
-use Rattle.solving.specs.Order.{delay}
+use Rattle.system.specs.Order.{delay}
 use Rattle.solving.specs.Solver.{shiftIn}
-use Rattle.solving.specs.Steps.{Advanced}
+use Rattle.solving.specs.Steps.Rounds.{Advanced}
 use Rattle.solving.proofs.Advance.{advanced-then, advanced-idle, advanced-all}
 use Rattle.solving.proofs.Delays.{delay-small}
-use Rattle.solving.proofs.Order.{delay-rises}
+use Rattle.system.proofs.Order.{delay-rises}
 use Rattle.solving.proofs.solve.Statement.{statement}
 use Rattle.solving.proofs.solve.Tie as tie
 

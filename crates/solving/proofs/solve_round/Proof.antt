@@ -3,7 +3,7 @@ use mathlib.Core.Path.{_≡_, refl, _∙_}
 use Prim.Native.Nat.{_≤_, _+_, _-_, _*_}
 use native.Mathlib.Omega.{arith}
 use lib.ListN.{length}
-use Rattle.solving.specs.Steps.{Advanced}
+use Rattle.solving.specs.Steps.Rounds.{Advanced}
 use Rattle.solving.proofs.Advance.{advanced-then, advanced-idle, advanced-on}
 use Rattle.solving.proofs.solve_round.Statement.{statement}
 use Rattle.solving.proofs.solve_round.Tie as tie

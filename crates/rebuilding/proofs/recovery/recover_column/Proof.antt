@@ -3,7 +3,7 @@ use native.Mathlib.Omega.{arith}
 use mathlib.Core.Path.{sym, ap, subst, _∙_}
 use Prim.Native.Nat.{_+_, _*_}
 use native.Mathlib.Nat.{mul-le-mul}
-use Rattle.solving.specs.System.{sequence}
+use Rattle.system.specs.System.{sequence}
 use Rattle.solving.specs.Solver.{shiftIn, Solvable}
 use Rattle.sequences.proofs.Charted.{solvable}
 use Rattle.matrix.proofs.ChosenRanks.{ranks}

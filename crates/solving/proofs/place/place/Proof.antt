@@ -6,7 +6,7 @@ use lib.Dec.{T}
 use lib.IntN.{natAbs}
 use lib.Signed.{nonNeg}
 use Rattle.solving.proofs.Signed.{offset-fits, at-fits, below-one, from-one, above, up-to}
-use Rattle.solving.proofs.Within.{within-inside, within-below, within-above}
+use Rattle.system.proofs.Within.{within-inside, within-below, within-above}
 use Rattle.solving.proofs.place.place.Statement.{statement}
 use Rattle.solving.proofs.place.place.Tie as tie
 

@@ -1,7 +1,7 @@
 -- `solving::place::taken_at` meets its contract: of its own sequence an equation takes nothing, and of another what lies inside.
 use mathlib.Core.Path.{sym, _∙_}
 use borrow.Author.Needs.{needs}
-use Rattle.solving.proofs.Within.{other-same, other-apart}
+use Rattle.system.proofs.Within.{other-same, other-apart}
 use Rattle.solving.proofs.place.taken_at.Statement.{statement}
 use Rattle.solving.proofs.place.taken_at.Tie as tie
 

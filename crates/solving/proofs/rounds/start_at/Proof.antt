@@ -4,7 +4,7 @@ use Prim.Native.Nat.{ℕ, _+_, _-_, _*_, _^_, _≤_}
 use native.Mathlib.Nat.{mul-le-mul}
 use native.Mathlib.Omega.{arith}
 use lib.ListN.{getD}
-use Rattle.solving.specs.Order.{delay}
+use Rattle.system.specs.Order.{delay}
 use Rattle.solving.specs.Solver.{shiftIn}
 use Rattle.solving.proofs.Delays.{delay-small}
 use Rattle.solving.proofs.rounds.start_at.Statement.{statement}

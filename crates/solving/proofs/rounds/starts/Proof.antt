@@ -9,7 +9,7 @@ use lib.ListN.{length, getD, set, length-set}
 use lib.Seq.{getD-set-same, getD-set-other}
 use Rattle.letters.proofs.Cases.{eq-or-ne}
 use Rattle.solving.specs.Solver.{shiftIn}
-use Rattle.solving.specs.Steps.{startOf}
+use Rattle.solving.specs.Steps.Rounds.{startOf}
 use Rattle.solving.proofs.rounds.starts.Statement.{statement}
 use Rattle.solving.proofs.rounds.starts.Tie as tie
 

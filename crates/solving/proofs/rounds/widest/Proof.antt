@@ -2,7 +2,7 @@
 use Prim.Native.Nat.{ℕ, _≤_, _+_, _-_}
 use native.Mathlib.Omega.{arith}
 use Rattle.solving.specs.Solver.{shiftIn}
-use Rattle.solving.proofs.Order.{one-more}
+use Rattle.system.proofs.Order.{one-more}
 use Rattle.solving.proofs.rounds.widest.Statement.{statement}
 use Rattle.solving.proofs.rounds.widest.Tie as tie
 

@@ -3,7 +3,7 @@ use mathlib.Core.Path.{sym}
 use Prim.Native.Nat.{_<_}
 use native.Mathlib.Omega.{arith}
 use lib.ListN.{length}
-use Rattle.solving.proofs.System.{indexOf, index-below, sequence-inside}
+use Rattle.system.proofs.System.{indexOf, index-below, sequence-inside}
 use borrow.Author.Needs.{needs}
 use Rattle.solving.proofs.sums.get.Statement.{statement}
 use Rattle.solving.proofs.sums.get.Tie as tie

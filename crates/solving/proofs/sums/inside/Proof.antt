@@ -4,7 +4,7 @@ use Prim.Native.Nat.{_≤_, _<_, _+_, _-_}
 use native.Mathlib.Omega.{arith}
 use lib.Bits.{bitXor}
 use lib.ListN.{length, getD}
-use Rattle.solving.specs.Steps.{gathered}
+use Rattle.solving.specs.Steps.Rounds.{gathered}
 use Rattle.solving.proofs.Gathered.{gathered-first, gathered-more}
 use Rattle.solving.proofs.sums.inside.Statement.{statement}
 use Rattle.solving.proofs.sums.inside.Tie as tie

@@ -2,7 +2,7 @@
 use Prim.Native.Nat.{_<_}
 use native.Mathlib.Omega.{arith}
 use lib.ListN.{length}
-use Rattle.solving.proofs.System.{indexOf, index-below}
+use Rattle.system.proofs.System.{indexOf, index-below}
 use borrow.Author.Needs.{needs}
 use Rattle.solving.proofs.sums.put.Statement.{statement}
 use Rattle.solving.proofs.sums.put.Tie as tie

@@ -4,8 +4,8 @@ use mathlib.Core.Logic.{⊎-elim}
 use Prim.Native.Nat.{ℕ, _≤_, _<_, _+_, _-_, _*_}
 use native.Mathlib.Omega.{arith}
 use lib.ListN.{length}
-use Rattle.solving.specs.Count.{other, within}
-use Rattle.solving.specs.Steps.{Taken}
+use Rattle.system.specs.Count.{other, within}
+use Rattle.solving.specs.Steps.Rounds.{Taken}
 use Rattle.solving.proofs.Equation.{Reads, taken-start, taken-letter, taken-nothing, letter-in}
 use Rattle.solving.proofs.sums.tested.Statement.{statement}
 use Rattle.solving.proofs.sums.tested.Tie as tie

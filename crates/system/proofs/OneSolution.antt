@@ -8,8 +8,8 @@ use Rattle.letters.specs.Algebra.{Letters}
 use Rattle.letters.proofs.Cases.{le-or-lt, eq-or-ne}
 use Rattle.letters.proofs.Places.{place-cases}
 use Rattle.letters.proofs.Sums.{sum-but-one}
-use Rattle.solving.specs.System.{part, Sequences}
-use Rattle.solving.specs.Order.{delay, Ordered}
+use Rattle.system.specs.System.{part, Sequences}
+use Rattle.system.specs.Order.{delay, Ordered}
 
 -- Where equation (b,p) reads another sequence a at a place from 1 on, that letter comes out no later, and in an earlier round if a is the higher rank.
 pub earlier :

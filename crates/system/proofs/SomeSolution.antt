@@ -13,10 +13,10 @@ use Rattle.letters.specs.Places.{both, inside}
 use Rattle.letters.proofs.Cases.{le-or-lt, eq-or-ne}
 use Rattle.letters.proofs.Places.{place-cases, inside-true, inside-below, inside-above}
 use Rattle.letters.proofs.Sums.{sum-same, sum-change, none-plus, plus-twice}
-use Rattle.solving.specs.System.{part, Sequences}
-use Rattle.solving.specs.Order.{delay, Ordered}
-use Rattle.solving.proofs.OneSolution.{earlier, own-place}
-use Rattle.solving.proofs.Settles.{settled, settles}
+use Rattle.system.specs.System.{part, Sequences}
+use Rattle.system.specs.Order.{delay, Ordered}
+use Rattle.system.proofs.OneSolution.{earlier, own-place}
+use Rattle.system.proofs.Settles.{settled, settles}
 
 -- an earlier round, or the same round and an earlier rank, is an earlier time
 earlier-rank : (c x y a b : ℕ) → x ≤ y → a < b → x * c + a < y * c + b

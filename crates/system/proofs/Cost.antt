@@ -9,8 +9,8 @@ use Rattle.letters.specs.Algebra.{counts, sum}
 use Rattle.letters.specs.Worth.{worthOf}
 use Rattle.letters.proofs.Cases.{le-or-lt}
 use Rattle.letters.proofs.Sums.{sum-same, sum-none, sum-swap}
-use Rattle.solving.proofs.Within.{within-inside, within-below, within-above}
-use Rattle.solving.specs.Count.{taken, ofEquation, additions, pairs, cost, place, other, within, distance}
+use Rattle.system.proofs.Within.{within-inside, within-below, within-above}
+use Rattle.system.specs.Count.{taken, ofEquation, additions, pairs, cost, place, other, within, distance}
 
 -- Of the first m of 1..n, moved right by c, those lie inside that are not pushed out above n,
 moved-right : (n c m : ℕ) → m ≤ n → sum counts m (λ p. within n (p + c) 1) ≡ m - ((m + c) - n)

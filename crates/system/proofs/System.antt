@@ -10,8 +10,8 @@ use Rattle.letters.specs.Algebra.{Adding, counts, sum}
 use Rattle.letters.proofs.Cases.{le-or-lt}
 use Rattle.letters.proofs.Places.{letter-inside, letter-zero, letter-above, letter-stored, letter-kept}
 use Rattle.letters.proofs.Sums.{sum-same}
-use Rattle.solving.specs.System.{part, sequence, Sequences}
-use Rattle.solving.specs.Count.{cost, other, distance}
+use Rattle.system.specs.System.{part, sequence, Sequences}
+use Rattle.system.specs.Count.{cost, other, distance}
 
 -- the index of letter p of sequence a, in a buffer of sequences of n letters
 abbrev pub indexOf : ℕ → ℕ → ℕ → ℕ

@@ -7,7 +7,7 @@ use native.Mathlib.Numerals.{add-one}
 use native.Mathlib.Decide.{le-ind}
 use native.Mathlib.Omega.{arith}
 use Rattle.shifts.specs.Rule.{ShiftRule, Refined}
-use Rattle.solving.specs.Order.{delay, Ordered, Falling, ruled}
+use Rattle.system.specs.Order.{delay, Ordered, Falling, ruled}
 
 -- rank 1 waits for nothing
 pub delay-first : (t : ℕ → ℕ → ℕ) → delay t 1 ≡ 0

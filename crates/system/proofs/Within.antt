@@ -3,7 +3,7 @@ use mathlib.Core.Path.{_≡_, refl}
 use Prim.Native.Nat.{ℕ, _≤_, _<_}
 use borrow.Author.Tests.{eq-eqb, ne-eqb}
 use Rattle.letters.proofs.Places.{inside-true, inside-below, inside-above}
-use Rattle.solving.specs.Count.{other, within}
+use Rattle.system.specs.Count.{other, within}
 
 module _ (n p m : ℕ) where
   pub within-inside : 1 ≤ p → p ≤ n → within n p m ≡ m
