@@ -5,35 +5,35 @@ use native.Mathlib.Omega.{arith}
 use Rattle.shifts.specs.Rule.{t}
 use Rattle.shifts.proofs.Rule.{at-most}
 use Rattle.group.specs.declared.Group.{Group}
-use Rattle.group.specs.Ranges.{InRange, NodeOf}
-use Rattle.group.specs.Lengths.{sequences, fileLetters, packetLength, packetStart, nodeLetters}
+use Rattle.group.specs.Ranges.{longest, InRange, NodeOf}
+use Rattle.group.specs.Lengths.{sequences, fileLetters, packetLength, packetStart, nodeLetters, mostPackets, widest, packetBound, letterBound, sequenceBound, fileBound}
 
 module _ (g : Group) (r : InRange g) where
-  pub kd-at-most : g .k * g .d ≤ 225
-  kd-at-most = mul-le-mul {n₂ = 15} {m₂ = 15} (omega arith) (omega arith)
+  pub kd-at-most : g .k * g .d ≤ sequenceBound
+  kd-at-most = mul-le-mul {n₂ = mostPackets} {m₂ = mostPackets} (omega arith) (omega arith)
 
   -- what B takes off is less than what it is taken off from
   pub pairs-below : g .k * (g .k - 1) ≤ g .k * g .d
   pairs-below = mul-le-mul-left (g .k) (omega arith)
 
-  pub sequences-at-most : sequences g ≤ 225
+  pub sequences-at-most : sequences g ≤ sequenceBound
   unfolding sequences
   sequences-at-most = omega (arith, kd-at-most)
 
-  pub file-at-most : fileLetters g ≤ 921600
+  pub file-at-most : fileLetters g ≤ fileBound
   unfolding fileLetters
-  file-at-most = mul-le-mul {n₂ = 225} {m₂ = 4096} sequences-at-most (omega arith)
+  file-at-most = mul-le-mul {n₂ = sequenceBound} {m₂ = longest} sequences-at-most (omega arith)
 
 module _ (g : Group) (i : ℕ) (r : NodeOf g i) where
-  pub shift-at-most : t i (g .d) ≤ 225
+  pub shift-at-most : t i (g .d) ≤ widest
   shift-at-most = at-most i (g .d) (omega arith) (omega arith)
 
-  pub packet-at-most : g .l + t i (g .d) ≤ 4321
+  pub packet-at-most : g .l + t i (g .d) ≤ packetBound
   packet-at-most = omega (arith, shift-at-most)
 
-  pub node-at-most : nodeLetters g i ≤ 64815
+  pub node-at-most : nodeLetters g i ≤ letterBound
   unfolding nodeLetters
-  node-at-most = mul-le-mul {n₂ = 15} {m₂ = 4321} (omega arith) packet-at-most
+  node-at-most = mul-le-mul {n₂ = mostPackets} {m₂ = packetBound} (omega arith) packet-at-most
 
   -- a packet ends within the node's letters
   pub packet-fits : (j : ℕ) → 1 ≤ j → j ≤ g .d → packetStart g i j + packetLength g i j ≤ nodeLetters g i

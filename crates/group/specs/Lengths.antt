@@ -2,6 +2,7 @@
 use Prim.Native.Nat.{ℕ, _+_, _-_, _*_, _/_}
 use Rattle.shifts.specs.Rule.{t}
 use Rattle.group.specs.declared.Group.{Group}
+use Rattle.group.specs.Ranges.{longest}
 
 -- B, the sequences of a file: kd - k(k-1)/2
 unfoldable pub sequences : Group → ℕ
@@ -28,11 +29,25 @@ nodeLetters g i = g .d * (g .l + t i (g .d))
 unfoldable pub repairLetters : Group → ℕ → ℕ
 repairLetters g f = g .l + t f (g .d)
 
--- the blocks of a share of so many letters, the last one filled up with zeros: 64 letters a block
-abbrev pub blocks : ℕ → ℕ
-blocks letters = (letters + 63) / 64
+-- the most packets that a node holds: d is at most 15
+abbrev pub mostPackets : ℕ
+mostPackets = 15
 
--- the bytes of node i's share: a head of 11, blocks of 65, an end of 5
-unfoldable pub shareBytes : Group → ℕ → ℕ
-unfolding nodeLetters
-shareBytes g i = 11 + blocks (nodeLetters g i) * 65 + 5
+-- no shift of the table is above this: t(16,16)
+abbrev pub widest : ℕ
+widest = 15 * 15
+
+-- so no packet has more letters than this,
+abbrev pub packetBound : ℕ
+packetBound = longest + widest
+
+-- and no node holds more
+abbrev pub letterBound : ℕ
+letterBound = mostPackets * packetBound
+
+-- no file has more sequences than this, and so no more letters than fileBound
+abbrev pub sequenceBound : ℕ
+sequenceBound = mostPackets * mostPackets
+
+abbrev pub fileBound : ℕ
+fileBound = sequenceBound * longest

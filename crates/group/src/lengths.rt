@@ -4,7 +4,7 @@ ghost use mathlib.Core.Path.{_≡_};
 ghost use Prim.Native.Nat.{min, _+_, _≤_};
 ghost use Rattle.shifts.specs.Rule.{t};
 ghost use Rattle.shifts.specs.Table.{Table};
-ghost use Rattle.group.specs.Lengths.{sequences, fileLetters, packetLength, packetStart, nodeLetters, repairLetters, shareBytes};
+ghost use Rattle.group.specs.Lengths.{sequences, fileLetters, packetLength, packetStart, nodeLetters, repairLetters, packetBound};
 ghost use Rattle.group.specs.Ranges.{InRange, NodeOf};
 
 // The lesser of two lengths.
@@ -37,7 +37,7 @@ pub fn file(g: Group) -> usize
 pub fn widened_in(table: &[u8], g: Group, node: usize) -> usize
     requires table { ⌜ Table (now table) ⌝ }
     requires node { ⌜ NodeOf g node ⌝ }
-    ensures { λ r. ⌜ (r ≡ g .l + t node (g .d)) × (r ≤ 4321) ⌝ }
+    ensures { λ r. ⌜ (r ≡ g .l + t node (g .d)) × (r ≤ packetBound) ⌝ }
 {
     g.l + shifts::shift_in(table, node, g.d)
 }
@@ -45,7 +45,7 @@ pub fn widened_in(table: &[u8], g: Group, node: usize) -> usize
 // The same for this alone.
 fn widened(g: Group, node: usize) -> usize
     requires { ⌜ NodeOf g node ⌝ }
-    ensures { λ r. ⌜ (r ≡ g .l + t node (g .d)) × (r ≤ 4321) ⌝ }
+    ensures { λ r. ⌜ (r ≡ g .l + t node (g .d)) × (r ≤ packetBound) ⌝ }
 {
     let table = shifts::all();
     widened_in(&table, g, node)
@@ -81,12 +81,4 @@ pub fn repair(g: Group, lost: usize) -> usize
     ensures { λ r. ⌜ r ≡ repairLetters g lost ⌝ }
 {
     widened(g, lost)
-}
-
-// The bytes of a node's share.
-pub fn share(g: Group, node: usize) -> usize
-    requires { ⌜ NodeOf g node ⌝ }
-    ensures { λ r. ⌜ r ≡ shareBytes g node ⌝ }
-{
-    11 + (self::node(g, node) + 63) / 64 * 65 + 5
 }

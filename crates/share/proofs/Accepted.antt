@@ -13,10 +13,9 @@ use borrow.Author.Tests.{le-ltb, eqb-true}
 use Rattle.letters.proofs.Cases.{le-or-lt}
 use Rattle.shifts.proofs.Entries.{listed, entry}
 use Rattle.group.specs.Ranges.{either, longest, NodeOf}
-use Rattle.group.specs.Lengths.{blocks}
 use Rattle.group.proofs.InRange.{between-true}
 use Rattle.share.specs.declared.Head.{Head}
-use Rattle.share.specs.Share.{headRecord, endRecord, shareOf, ShareOf, Bytes}
+use Rattle.share.specs.Share.{headRecord, endRecord, shareOf, ShareOf, Bytes, blocks}
 use Rattle.share.specs.Places.{totalIn, headIn, totalOf, headTests, sizeFor, blockKind, blockByte, blockStands, letterIn, standsIn, stands, recordAt, offsetAt}
 use Rattle.share.proofs.LaidOut.{in-head, in-blocks, in-end, share-length}
 use Rattle.share.proofs.HeadOffsets.{each-offset, total-of}

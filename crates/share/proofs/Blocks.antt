@@ -7,9 +7,8 @@ use native.Mathlib.Omega.{arith}
 use lib.ListN.{length, getD, set, List·getD-eq-default}
 use lib.Seq.{ext-getD}
 use borrow.Author.Tests.{lt-leb}
-use Rattle.group.specs.Lengths.{blocks}
 use Rattle.share.specs.declared.Head.{Head}
-use Rattle.share.specs.Share.{headRecord, endRecord, shareOf}
+use Rattle.share.specs.Share.{headRecord, endRecord, shareOf, blocks}
 use Rattle.share.specs.Reading.{Copied}
 use Rattle.share.specs.Places.{blockKind, blockByte, letterIn, sizeFor}
 use Rattle.letters.specs.Laid.{Laid}

@@ -12,10 +12,9 @@ use lib.Seq.{getD-at}
 use borrow.Author.Tests.{eq-eqb, ne-eqb}
 use Rattle.letters.proofs.Cases.{le-or-lt, eq-or-ne}
 use Rattle.group.specs.Ranges.{between, longest}
-use Rattle.group.specs.Lengths.{blocks}
 use Rattle.group.proofs.InRange.{between-true, true-between}
 use Rattle.group.proofs.Sizes.{node-at-most}
-use Rattle.share.specs.Share.{endRecord, ShareOf, Bytes}
+use Rattle.share.specs.Share.{endRecord, ShareOf, Bytes, blocks}
 use Rattle.share.specs.Judgment.{CanStand}
 use Rattle.share.specs.Places.{totalIn, pair, headIn, totalOf, headTests, sizeFor, blockKind, blockStands, stands}
 use Rattle.share.proofs.HeadOffsets.{each-offset, total-of}

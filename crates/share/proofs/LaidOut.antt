@@ -8,9 +8,8 @@ use lib.ListN.{length, getD, take, drop, replicate, length-append, length-take, 
 use lib.Seq.{getD-append-add, getD-take, getD-drop}
 use borrow.Author.Tests.{lt-ltb, le-ltb, le-leb, lt-leb}
 use Rattle.letters.proofs.Cases.{le-or-lt}
-use Rattle.group.specs.Lengths.{blocks}
 use Rattle.share.specs.declared.Head.{Head}
-use Rattle.share.specs.Share.{headRecord, fullBlocks, lastBlock, blockRecords, endRecord, shareOf, kindFull, kindLast}
+use Rattle.share.specs.Share.{headRecord, fullBlocks, lastBlock, blockRecords, endRecord, shareOf, kindFull, kindLast, blocks}
 use Rattle.share.specs.Places.{blockByte, recordAt, offsetAt, sizeFor}
 
 -- the element of two lists in a row

@@ -13,11 +13,11 @@ use Rattle.letters.proofs.Cases.{le-or-lt}
 use borrow.Author.Tests.{lt-ltb, le-ltb, eq-eqb, ne-eqb}
 use Rattle.group.specs.Answers.{ifFine}
 use Rattle.group.specs.Ranges.{either, nodeRefusal}
-use Rattle.group.specs.Lengths.{nodeLetters, blocks}
+use Rattle.group.specs.Lengths.{nodeLetters}
 use Rattle.group.proofs.InRange.{node-of}
 use Rattle.group.proofs.Sizes.{node-at-most}
 use Rattle.share.specs.declared.Head.{Head}
-use Rattle.share.specs.Share.{headRecord, endRecord}
+use Rattle.share.specs.Share.{headRecord, endRecord, blocks}
 use Rattle.share.specs.Places.{totalIn, headTests, blockKind, blockStands, endStands, recordStands, standsIn, stands, headIn, totalOf, recordStart, recordSize, recordAt, offsetAt}
 use Rattle.share.proofs.HeadOffsets.{each-offset}
 use Rattle.share.proofs.LaidOut.{record-at, offset-at, head-at}

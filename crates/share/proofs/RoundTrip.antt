@@ -8,11 +8,11 @@ use borrow.Author.Tests.{eq-eqb}
 use Rattle.group.specs.declared.Answer.{Answer}
 use Rattle.group.specs.Answers.{ifFine}
 use Rattle.group.specs.Ranges.{nodeRefusal}
-use Rattle.group.specs.Lengths.{nodeLetters, shareBytes}
+use Rattle.group.specs.Lengths.{nodeLetters}
 use Rattle.group.proofs.InRange.{node-of, of-node}
 use Rattle.group.proofs.Refusals.{first-none}
 use Rattle.share.specs.declared.Head.{Head}
-use Rattle.share.specs.Share.{shareOf, ShareOf, Bytes}
+use Rattle.share.specs.Share.{shareOf, ShareOf, Bytes, shareBytes}
 use Rattle.share.specs.Places.{sizeFor}
 use Rattle.share.specs.Calls.{fitRefusal, writeRefusal, Written, Reads}
 use Rattle.share.proofs.LaidOut.{share-length}

@@ -10,7 +10,7 @@ use lib.ListN.{length, getD}
 use borrow.Author.Tests.{lt-ltb, le-leb, eq-eqb}
 use Rattle.letters.proofs.Cases.{le-or-lt}
 use Rattle.group.specs.Ranges.{either}
-use Rattle.group.specs.Lengths.{blocks}
+use Rattle.share.specs.Share.{blocks}
 use Rattle.share.specs.declared.Head.{Head}
 use Rattle.share.specs.Places.{totalIn, blockKind, recordStands, standsIn, stands}
 use Rattle.share.specs.Reading.{Lettered, Zeros, Skips, FullBlocks}

@@ -11,10 +11,10 @@ use lib.ListN.{length, getD, List·getD-eq-default}
 use borrow.Author.Tests.{lt-ltb, le-ltb, eq-eqb, ne-eqb}
 use Rattle.letters.proofs.Cases.{le-or-lt}
 use Rattle.group.specs.Ranges.{either, longest, NodeOf}
-use Rattle.group.specs.Lengths.{nodeLetters, blocks}
+use Rattle.group.specs.Lengths.{nodeLetters}
 use Rattle.group.proofs.InRange.{true-between}
 use Rattle.share.specs.declared.Head.{Head}
-use Rattle.share.specs.Share.{endRecord, shareOf}
+use Rattle.share.specs.Share.{endRecord, shareOf, blocks}
 use Rattle.share.specs.Places.{totalIn, headIn, totalOf, headTests, sizeFor, blockKind, blockByte, blockStands, endStands, recordStands, standsIn, stands}
 use Rattle.share.proofs.LaidOut.{in-blocks, in-end, record-at, offset-at, head-at}
 use Rattle.share.proofs.HeadOffsets.{each-offset, head-of, total-of}

@@ -9,10 +9,9 @@ use Rattle.group.specs.declared.Refusal.{Refusal}
 use Rattle.group.specs.declared.Answer.{Answer}
 use Rattle.group.specs.Answers.{refusalNumber, first}
 use Rattle.group.specs.Ranges.{inputRefusal, outputRefusal}
-use Rattle.group.specs.Lengths.{shareBytes}
 use Rattle.group.proofs.Refusals.{numbered, unless-none, first-none, first-fine, refuses, gives}
 use Rattle.share.specs.declared.Head.{Head}
-use Rattle.share.specs.Share.{shareOf}
+use Rattle.share.specs.Share.{shareOf, shareBytes}
 use Rattle.share.specs.Calls.{Writes}
 
 module _ (h : Head) (letters before : List ℕ) where

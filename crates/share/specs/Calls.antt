@@ -7,10 +7,10 @@ use Rattle.group.specs.declared.Group.{Group}
 use Rattle.group.specs.declared.Answer.{Answer}
 use Rattle.group.specs.Answers.{refusalNumber, first, ifFine, Answers}
 use Rattle.group.specs.Ranges.{nodeRefusal, inputRefusal, outputRefusal}
-use Rattle.group.specs.Lengths.{nodeLetters, shareBytes}
+use Rattle.group.specs.Lengths.{nodeLetters}
 use Rattle.share.specs.declared.Head.{Head}
 use Rattle.share.specs.declared.Judgment.{Judgment}
-use Rattle.share.specs.Share.{shareOf, ShareOf}
+use Rattle.share.specs.Share.{shareOf, ShareOf, shareBytes}
 use Rattle.share.specs.Judgment.{IsBeginning, IsNeither}
 
 -- a judgment's number: 0 where the bytes are complete

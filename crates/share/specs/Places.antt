@@ -8,9 +8,9 @@ use lib.ListN.{length, getD}
 use Rattle.letters.specs.Places.{both}
 use Rattle.group.specs.Answers.{ifFine}
 use Rattle.group.specs.Ranges.{between, longest, either, nodeRefusal}
-use Rattle.group.specs.Lengths.{nodeLetters, blocks}
+use Rattle.group.specs.Lengths.{nodeLetters}
 use Rattle.share.specs.declared.Head.{Head}
-use Rattle.share.specs.Share.{kindHead, kindFull, kindLast, headSize, blockSize, endSize, blockLetters, endRecord}
+use Rattle.share.specs.Share.{kindHead, kindFull, kindLast, headSize, blockSize, endSize, blockLetters, endRecord, blocks}
 
 -- the number of two or four bytes, the least one first
 abbrev pub pair : ℕ → ℕ → ℕ
@@ -41,10 +41,6 @@ totalOf h = ifFine (nodeRefusal (h .group) (h .node)) (nodeLetters (h .group) (h
 -- T as the bytes have it
 abbrev pub totalIn : List ℕ → ℕ
 totalIn xs = totalOf (headIn xs)
-
--- no T is above this (document 01: at most 64,590), so that nothing overflows
-abbrev pub letterBound : ℕ
-letterBound = 64815
 
 -- the bytes of a share of so many letters
 abbrev pub sizeFor : ℕ → ℕ

@@ -1,8 +1,9 @@
 -- The share of document 01: a head, the letters in blocks, and an end.
 use mathlib.Core.Path.{_≡_}
 use mathlib.Core.List.{List, [], _∷_, _++_}
-use Prim.Native.Nat.{ℕ, zero, suc, _-_, _*_, _/_, _%_, _^_, _<_}
+use Prim.Native.Nat.{ℕ, zero, suc, _+_, _-_, _*_, _/_, _%_, _^_, _<_}
 use lib.ListN.{length, getD, take, drop, replicate}
+use Rattle.group.specs.declared.Group.{Group}
 use Rattle.group.specs.Ranges.{NodeOf}
 use Rattle.group.specs.Lengths.{nodeLetters}
 use Rattle.share.specs.declared.Head.{Head}
@@ -32,6 +33,10 @@ endSize = 5
 
 abbrev pub blockLetters : ℕ
 blockLetters = 64
+
+-- the blocks of so many letters, the last one filled up with zeros
+abbrev pub blocks : ℕ → ℕ
+blocks letters = (letters + 63) / 64
 
 -- a number as so many bytes, least byte first
 abbrev pub number : ℕ → ℕ → List ℕ
@@ -66,6 +71,11 @@ endRecord letters = kindEnd ∷ number 4 letters
 -- the share: the head, the blocks, the end, and nothing more
 unfoldable pub shareOf : Head → List ℕ → List ℕ
 shareOf h letters = headRecord h ++ (blockRecords letters ++ endRecord (length letters))
+
+-- the bytes of node i's share
+unfoldable pub shareBytes : Group → ℕ → ℕ
+unfolding nodeLetters
+shareBytes g i = headSize + blocks (nodeLetters g i) * blockSize + endSize
 
 -- numbers that are all below 256
 pub record Bytes (xs : List ℕ) : Type 0 where

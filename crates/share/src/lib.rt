@@ -12,6 +12,10 @@ use group::Check;
 use group::Group;
 use group::Refusal;
 use group::checks;
+use group::lengths;
+ghost use Rattle.group.specs.Answers.{Answers};
+ghost use Rattle.group.specs.Ranges.{nodeRefusal};
+ghost use Rattle.share.specs.Share.{shareBytes};
 ghost use Rattle.share.specs.Calls.{Judges, Reads, Written, numberOf, headOf, headFor};
 
 // A share's head: whose letters it holds, and of which batch.
@@ -27,6 +31,16 @@ pub enum Judgment {
     Complete(Head),
     // 7: the beginning of some share, but not all of it. 8: neither. Reading also has 6.
     Refused(Refusal),
+}
+
+// The bytes of a node's share. Refusals: 1, 2, 3.
+pub fn share_bytes(g: Group, node: usize) -> Answer
+    ensures { λ r. ⌜ Answers r (nodeRefusal g node) (shareBytes g node) ⌝ }
+{
+    match checks::node(g, node) {
+        Check::Refused(refusal) => Answer::Refused(refusal),
+        Check::Fine => Answer::Value(records::size_for(lengths::node(g, node))),
+    }
 }
 
 // Writes a node's packets, one after another, as its share. The answer is how many bytes it has. A refused call leaves `share`

@@ -2,9 +2,9 @@
 ghost use mathlib.Core.Path.{_≡_};
 ghost use Prim.Native.Nat.{_%_, _≤_, _<_};
 ghost use lib.ListN.{getD};
-ghost use Rattle.group.specs.Lengths.{blocks};
-ghost use Rattle.share.specs.Places.{blockKind, recordSize, sizeFor, letterBound};
-ghost use Rattle.share.specs.Share.{endRecord};
+ghost use Rattle.share.specs.Places.{blockKind, recordSize, sizeFor};
+ghost use Rattle.group.specs.Lengths.{letterBound};
+ghost use Rattle.share.specs.Share.{endRecord, blocks};
 
 // The kinds of record.
 pub const KIND_HEAD: u8 = 1;

@@ -6,7 +6,8 @@ use group::lengths;
 ghost use mathlib.Core.Path.{_≡_};
 ghost use Prim.Native.Nat.{_≤_, _<_};
 ghost use lib.ListN.{length};
-ghost use Rattle.share.specs.Places.{headIn, totalOf, letterBound};
+ghost use Rattle.share.specs.Places.{headIn, totalOf};
+ghost use Rattle.group.specs.Lengths.{letterBound};
 ghost use Rattle.share.specs.Reading.{Stops, Lettered, Zeros, Skips, FullBlocks};
 
 // How many letters follow this byte in its record: those behind a block's kind.

@@ -7,7 +7,8 @@ ghost use mathlib.Core.Bool.{true};
 ghost use Prim.Native.Nat.{_-_, _≤_, _<_};
 ghost use lib.ListN.{getD};
 ghost use Rattle.group.specs.Ranges.{between};
-ghost use Rattle.share.specs.Places.{headTests, blockStands, endStands, recordStands, standsIn, letterBound};
+ghost use Rattle.share.specs.Places.{headTests, blockStands, endStands, recordStands, standsIn};
+ghost use Rattle.group.specs.Lengths.{letterBound};
 
 // x is one of lo..hi.
 fn within(lo: usize, hi: usize, x: usize) -> bool

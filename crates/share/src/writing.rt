@@ -12,10 +12,10 @@ ghost use Prim.Native.Nat.{_+_, _-_, _*_, _/_, _≤_};
 ghost use lib.ListN.{length, getD};
 ghost use Rattle.letters.specs.Laid.{Laid};
 ghost use Rattle.group.specs.Ranges.{NodeOf};
-ghost use Rattle.group.specs.Lengths.{blocks};
 ghost use Rattle.share.specs.Calls.{Writes, fitRefusal};
-ghost use Rattle.share.specs.Places.{sizeFor, letterBound};
-ghost use Rattle.share.specs.Share.{headSize, blockSize, blockLetters, headRecord, endRecord, shareOf};
+ghost use Rattle.share.specs.Places.{sizeFor};
+ghost use Rattle.group.specs.Lengths.{letterBound};
+ghost use Rattle.share.specs.Share.{headSize, blockSize, blockLetters, headRecord, endRecord, shareOf, blocks};
 ghost use Rattle.share.specs.Writing.{blocksByte};
 
 // The byte at an offset of the head.

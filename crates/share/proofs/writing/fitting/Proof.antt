@@ -6,7 +6,8 @@ use Rattle.group.proofs.Sizes.{node-at-most}
 use Prim.Native.Nat.{ℕ}
 use Rattle.group.specs.Answers.{first}
 use Rattle.group.specs.Ranges.{inputRefusal, outputRefusal}
-use Rattle.group.specs.Lengths.{nodeLetters, shareBytes}
+use Rattle.group.specs.Lengths.{nodeLetters}
+use Rattle.share.specs.Share.{shareBytes}
 use Rattle.share.specs.declared.Head.{Head}
 use Rattle.share.specs.Places.{sizeFor}
 use Rattle.share.specs.Calls.{fitRefusal}

@@ -4,8 +4,7 @@ use Prim.Native.Nat.{ℕ, _+_, _-_, _*_, _≤_}
 use native.Mathlib.Omega.{arith}
 use lib.ListN.{getD}
 use borrow.Author.Needs.{needs}
-use Rattle.group.specs.Lengths.{blocks}
-use Rattle.share.specs.Share.{endRecord}
+use Rattle.share.specs.Share.{endRecord, blocks}
 use Rattle.letters.specs.Laid.{Laid}
 use Rattle.letters.proofs.Laying.{nothing-laid, laid-one, laid-until}
 use Rattle.share.proofs.writing.put_end.Statement.{statement}
