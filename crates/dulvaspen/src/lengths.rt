@@ -3,7 +3,7 @@ use crate::answers;
 use group::Group;
 ghost use Rattle.group.specs.Ranges.{groupRefusal, nodeRefusal};
 ghost use Rattle.group.specs.Lengths.{fileLetters, nodeLetters, repairLetters};
-ghost use Rattle.share.specs.Share.{shareBytes};
+ghost use Rattle.share.specs.Calls.{shareBytes};
 ghost use Rattle.dulvaspen.specs.Exports.{groupOf, Tells};
 
 // The letters of a file, B*L. Refusals: 1, 2.

@@ -1,88 +1,99 @@
 -- Going through a share record by record and byte by byte, as its reader does.
 use mathlib.Core.Path.{_≡_, refl, _∙_}
 use mathlib.Core.Logic.{⊎-elim}
-use Prim.Native.Nat.{ℕ, min, _+_, _-_, _*_, _≤_, _<_}
+use Prim.Native.Nat.{ℕ, zero, suc, min, _+_, _-_, _*_, _≤_, _<_}
 use native.Mathlib.Omega.{arith}
 use Rattle.letters.proofs.Cases.{le-or-lt}
-use Rattle.share.specs.Places.{recordStart, recordSize}
-use Rattle.share.proofs.Places.{next-start, start-of-block, size-some, size-at-most}
+use Rattle.records.specs.Records.{blockSize}
+use Rattle.records.specs.Places.{recordStart, recordSize}
+use Rattle.records.proofs.Places.{next-start, start-of-block}
 
 -- between two records of so many bytes: where one is left, a record starts there
-pub record Between (count at nth : ℕ) : Type 0 where
+pub record Between (H count at nth : ℕ) : Type 0 where
   pub within : at ≤ count
-  pub begins : at < count → at ≡ recordStart nth
+  pub begins : at < count → at ≡ recordStart H nth
   pub few : nth ≤ at
 
 -- in a record: its bytes are those up to end, or as many of them as there are
-pub record Inside (count nth start end at : ℕ) : Type 0 where
+pub record Inside (H count nth start end at : ℕ) : Type 0 where
   pub from : start ≤ at
   pub until : at ≤ end
   pub fits : end ≤ count
-  pub size : end ≤ start + recordSize nth
-  pub whole : end < count → end ≡ start + recordSize nth
-  pub begins : start ≡ recordStart nth
+  pub size : end ≤ start + recordSize H nth
+  pub whole : end < count → end ≡ start + recordSize H nth
+  pub begins : start ≡ recordStart H nth
   pub few : nth ≤ start
   pub some : start < end
 
-pub outset : (count : ℕ) → Between count 0 0
-outset count = record { within = omega arith; begins = λ h. refl; few = omega arith }
+-- a head that isn't empty, and no longer than a block
+module _ (H : ℕ) (filled : 1 ≤ H) (small : H ≤ blockSize) where
+  size-some : (nth : ℕ) → 1 ≤ recordSize H nth
+  size-some zero = filled
+  size-some (suc r) = omega arith
 
-pub enter :
-    (count at nth size end : ℕ) → Between count at nth → at < count → size ≡ recordSize nth → end ≡ min (at + size) count
-    → Inside count nth at end at
-enter count at nth size end b h s e =
-    let one = size-some nth in
-    record {
-      from = omega arith;
-      until = omega arith;
-      fits = omega arith;
-      size = omega arith;
-      whole = λ l. omega arith;
-      begins = b .begins h;
-      few = b .few;
-      some = omega arith;
-    }
+  pub size-at-most : (nth : ℕ) → recordSize H nth ≤ blockSize
+  size-at-most zero = small
+  size-at-most (suc r) = omega arith
 
-pub stride : (count nth start end at next : ℕ) → Inside count nth start end at → at ≤ next → next ≤ end → Inside count nth start end next
-stride count nth start end at next w lo hi =
-    record {
-      from = omega arith;
-      until = hi;
-      fits = w .fits;
-      size = w .size;
-      whole = w .whole;
-      begins = w .begins;
-      few = w .few;
-      some = w .some;
-    }
+  pub outset : (count : ℕ) → Between H count 0 0
+  outset count = record { within = omega arith; begins = λ h. refl; few = omega arith }
 
-leave : (count nth start end at : ℕ) → Inside count nth start end at → end ≤ at → Between count at (nth + 1)
-leave count nth start end at w h =
-    record { within = omega arith; begins = λ l. omega (arith, w .whole (omega arith), next-start nth); few = omega arith }
+  pub enter :
+      (count at nth size end : ℕ) → Between H count at nth → at < count → size ≡ recordSize H nth → end ≡ min (at + size) count
+      → Inside H count nth at end at
+  enter count at nth size end b h s e =
+      let one = size-some nth in
+      record {
+        from = omega arith;
+        until = omega arith;
+        fits = omega arith;
+        size = omega arith;
+        whole = λ l. omega arith;
+        begins = b .begins h;
+        few = b .few;
+        some = omega arith;
+      }
 
--- the record is left, and as many whole blocks after it are passed
-module _ (count nth start end at : ℕ) (w : Inside count nth start end at) (done : end ≤ at) where
-  -- where a block after the record is there, the record is whole, and that block starts where it ends
-  pub at-block : (e : ℕ) → nth < e → 11 + e * 65 ≤ count → at ≡ 11 + nth * 65
-  at-block e some there =
-      let starts = next-start nth ∙ start-of-block nth in
-      let past : end < count = omega (arith, starts, w) in omega (arith, starts, w .whole past, w)
+  pub stride : (count nth start end at next : ℕ) → Inside H count nth start end at → at ≤ next → next ≤ end → Inside H count nth start end next
+  stride count nth start end at next w lo hi =
+      record {
+        from = omega arith;
+        until = hi;
+        fits = w .fits;
+        size = w .size;
+        whole = w .whole;
+        begins = w .begins;
+        few = w .few;
+        some = w .some;
+      }
 
-  pub pass : (e : ℕ) → nth ≤ e → (nth < e → 11 + e * 65 ≤ count) → Between count (at + (e - nth) * 65) (e + 1)
-  pass e on there = ⊎-elim none some (le-or-lt e nth)
-    where
-      none : e ≤ nth → Between count (at + (e - nth) * 65) (e + 1)
-      none h =
-          let same : e ≡ nth = omega arith in
-          let stay : at + (e - nth) * 65 ≡ at = omega arith in
-          rw stay (rw same (leave count nth start end at w done))
+  leave : (count nth start end at : ℕ) → Inside H count nth start end at → end ≤ at → Between H count at (nth + 1)
+  leave count nth start end at w h =
+      record { within = omega arith; begins = λ l. omega (arith, w .whole (omega arith), next-start H nth); few = omega arith }
 
-      some : nth < e → Between count (at + (e - nth) * 65) (e + 1)
-      some h =
-          let here = at-block e h (there h) in
-          let fits = there h in
-          record { within = omega arith; begins = λ l. omega (arith, start-of-block e); few = omega arith }
+  -- the record is left, and as many whole blocks after it are passed
+  module _ (count nth start end at : ℕ) (w : Inside H count nth start end at) (done : end ≤ at) where
+    -- where a block after the record is there, the record is whole, and that block starts where it ends
+    pub at-block : (e : ℕ) → nth < e → H + e * blockSize ≤ count → at ≡ H + nth * blockSize
+    at-block e some there =
+        let starts = next-start H nth ∙ start-of-block H nth in
+        let past : end < count = omega (arith, starts, w) in omega (arith, starts, w .whole past, w)
 
--- no offset of a record is above 64
-pub offset-small : (count nth start end at : ℕ) → Inside count nth start end at → at < end → at - start < 65
-offset-small count nth start end at w h = omega (arith, size-at-most nth)
+    pub pass : (e : ℕ) → nth ≤ e → (nth < e → H + e * blockSize ≤ count) → Between H count (at + (e - nth) * blockSize) (e + 1)
+    pass e on there = ⊎-elim none some (le-or-lt e nth)
+      where
+        none : e ≤ nth → Between H count (at + (e - nth) * blockSize) (e + 1)
+        none h =
+            let same : e ≡ nth = omega arith in
+            let stay : at + (e - nth) * blockSize ≡ at = omega arith in
+            rw stay (rw same (leave count nth start end at w done))
+
+        some : nth < e → Between H count (at + (e - nth) * blockSize) (e + 1)
+        some h =
+            let here = at-block e h (there h) in
+            let fits = there h in
+            record { within = omega arith; begins = λ l. omega (arith, start-of-block H e); few = omega arith }
+
+  -- no offset of a record is as large as a block
+  pub offset-small : (count nth start end at : ℕ) → Inside H count nth start end at → at < end → at - start < blockSize
+  offset-small count nth start end at w h = omega (arith, size-at-most nth)

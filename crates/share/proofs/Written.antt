@@ -10,9 +10,10 @@ use Rattle.group.specs.declared.Answer.{Answer}
 use Rattle.group.specs.Answers.{refusalNumber, first}
 use Rattle.group.specs.Ranges.{inputRefusal, outputRefusal}
 use Rattle.group.proofs.Refusals.{numbered, unless-none, first-none, first-fine, refuses, gives}
+use Rattle.layout.specs.Share.{shareOf}
 use Rattle.share.specs.declared.Head.{Head}
-use Rattle.share.specs.Share.{shareOf, shareBytes}
-use Rattle.share.specs.Calls.{Writes}
+use Rattle.share.specs.Heads.{heads}
+use Rattle.share.specs.Calls.{Writes, shareBytes}
 
 module _ (h : Head) (letters before : List ℕ) where
   pub write-refused : (q : Refusal) (n : ℕ) → refusalNumber q ≡ n → Writes h letters before n (Answer.Refused q) before
@@ -20,7 +21,7 @@ module _ (h : Head) (letters before : List ℕ) where
   write-refused q (suc n) e = record { answered = refuses q (suc n) (shareBytes (h .group) (h .node)) e; held = refl }
 
   pub write-done :
-      (n bytes : ℕ) (after : List ℕ) → n ≡ 0 → bytes ≡ shareBytes (h .group) (h .node) → after ≡ shareOf h letters
+      (n bytes : ℕ) (after : List ℕ) → n ≡ 0 → bytes ≡ shareBytes (h .group) (h .node) → after ≡ shareOf heads h letters
       → Writes h letters before n (Answer.Value bytes) after
   write-done n bytes after e b s =
       record { answered = gives n bytes (shareBytes (h .group) (h .node)) e b; held = rw e s }

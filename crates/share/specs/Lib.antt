@@ -1,7 +1,5 @@
--- What a share is, what any bytes are, and what the calls promise.
-pub mod Share
-pub mod Judgment
-pub mod Places
+-- The heads that a share may have, and what the calls promise.
+pub mod Kind1
+pub mod Heads
 pub mod Calls
-pub mod Reading
-pub mod Writing
+pub mod Steps

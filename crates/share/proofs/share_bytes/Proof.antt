@@ -4,8 +4,9 @@ use native.Mathlib.Omega.{arith}
 use Rattle.group.proofs.InRange.{node-of}
 use Rattle.group.proofs.Refusals.{stopped, fine, refuses, gives}
 use Rattle.group.proofs.Sizes.{node-at-most}
-use Rattle.share.specs.Share.{shareBytes}
-use Rattle.share.specs.Places.{sizeFor}
+use Rattle.records.specs.Records.{sizeFor}
+use Rattle.share.specs.Kind1.{kind1Size}
+use Rattle.share.specs.Calls.{shareBytes}
 use borrow.Author.Needs.{needs}
 use Rattle.share.proofs.share_bytes.Statement.{statement}
 use Rattle.share.proofs.share_bytes.Tie as tie
@@ -26,14 +27,14 @@ node-requires-2 c κs = let s = c .before .before in
 size-for-requires : tie.Need-size-for-requires
 size-for-requires c κs =
     let s = c .before .before .before in
-    omega (arith, c .node2 .ensures, node-at-most _ _ (node-of (s .before .args .g) (s .before .args .node) (fine _ _ (c .before .enum-told .given .1) (s .node .ensures))))
+    (omega arith, omega (arith, c .node2 .ensures, node-at-most _ _ (node-of (s .before .args .g) (s .before .args .node) (fine _ _ (c .before .enum-told .given .1) (s .node .ensures)))))
 
 returns : tie.Need-returns
 returns c = refuses _ _ _ (stopped _ _ _ (c .before .refusal .given .1) (c .before .before .before .node .ensures))
 
 returns-2 : tie.Need-returns-2
 unfolding shareBytes
-returns-2 c = gives _ _ _ (fine _ _ (c .before .before .enum-told .given .1) (c .before .before .before .before .node .ensures)) (c .size-for .ensures ∙ ap sizeFor (c .before .node2 .ensures))
+returns-2 c = gives _ _ _ (fine _ _ (c .before .before .enum-told .given .1) (c .before .before .before .before .node .ensures)) (c .size-for .ensures ∙ ap (sizeFor kind1Size) (c .before .node2 .ensures))
 
 pub share-bytes-spec : {M : Type 1} → statement M
 share-bytes-spec =

@@ -4,17 +4,17 @@ use Prim.Native.Nat.{_-_, _≤_}
 use native.Mathlib.Omega.{arith}
 use lib.ListN.{getD}
 use borrow.Author.Needs.{needs}
-use Rattle.share.specs.Share.{headRecord}
+use Rattle.share.specs.Kind1.{kind1Record, kind1Size}
 use Rattle.letters.specs.Laid.{Laid}
 use Rattle.letters.proofs.Laying.{nothing-laid, laid-one, laid-until}
 use Rattle.share.proofs.writing.put_head.Statement.{statement}
 use Rattle.share.proofs.writing.put_head.Tie as tie
 
 abbrev Inv-loop : tie.InvT-loop
-Inv-loop head share₀ at₀ share at = (at ≤ 11) × Laid share₀ share 0 at (λ p. getD (headRecord head) p 0)
+Inv-loop head share₀ at₀ share at = (at ≤ kind1Size) × Laid share₀ share 0 at (λ p. getD (kind1Record head) p 0)
 
 abbrev μ-loop : tie.MeasureT-loop
-μ-loop head share₀ at₀ share at = 11 - at
+μ-loop head share₀ at₀ share at = kind1Size - at
 
 loop-holds : tie.Need-loop-holds Inv-loop μ-loop
 loop-holds c = (omega arith, nothing-laid _ _ _ _ (omega arith))

@@ -1,0 +1,7 @@
+-- The laws of shares, from those of their layout.
+pub mod LaidOut
+pub mod FromParts
+pub mod Stands
+pub mod Accepted
+pub mod Completing
+pub mod Judgments

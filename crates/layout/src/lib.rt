@@ -1,0 +1,1 @@
+// What a share is, whatever its head's layout: definitions and their laws, and no code.

@@ -1,0 +1,3 @@
+-- What the loops leave between two statements: no reader has to believe these.
+pub mod Reading
+pub mod Writing

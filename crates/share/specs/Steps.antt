@@ -1,0 +1,2 @@
+-- What the loops leave between two statements: no reader has to believe these.
+pub mod Reading
