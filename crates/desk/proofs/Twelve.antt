@@ -17,9 +17,9 @@ use Rattle.records.specs.Records.{blockRecords, fullBlocks, lastBlock}
 use Rattle.layout.specs.Share.{shareOf, ShareOf}
 use Rattle.layout.specs.Judgment.{IsShare}
 use Rattle.layout.proofs.Judgments.{cut-is-beginning, share-then-more, nothing-begins}
-use Rattle.share.specs.Heads.{heads}
+use Rattle.heads.specs.Heads.{heads}
 use Rattle.share.specs.Calls.{noHead, headFor, Judges}
-use Rattle.share.proofs.Kind1Laws.{lawful, total-of}
+use Rattle.heads.proofs.Kind1Laws.{lawful, total-of}
 use Rattle.desk.specs.Examples.{AllHold, one, stored, twelve}
 
 -- P9's letters, which are bytes

@@ -11,7 +11,7 @@ use Rattle.store.specs.Pieces.{reading}
 use Rattle.store.specs.Counts.{recoveryCost}
 use Rattle.store.specs.Repair.{helping, equations}
 use Rattle.layout.specs.Share.{shareOf}
-use Rattle.share.specs.Heads.{heads}
+use Rattle.heads.specs.Heads.{heads}
 use Rattle.share.specs.Calls.{noHead, headFor, Judges}
 
 pub data Example : Type 0 where

@@ -8,10 +8,10 @@ use Rattle.group.specs.declared.Refusal.{Refusal}
 use Rattle.group.specs.Answers.{refusalNumber}
 use Rattle.group.proofs.Refusals.{numbered}
 use Rattle.layout.specs.Share.{ShareOf}
-use Rattle.share.specs.declared.Head.{Head}
+use Rattle.heads.specs.declared.Head.{Head}
 use Rattle.share.specs.declared.Judgment.{Judgment}
 use Rattle.share.specs.Calls.{judgmentNumber, headOf, noHead, Judges, Reads}
-use Rattle.share.specs.Heads.{heads}
+use Rattle.heads.specs.Heads.{heads}
 use Rattle.dulvaspen.specs.Shares.{six, JudgesShare, ReadsShare, Misfits}
 
 -- six stores into six numbers

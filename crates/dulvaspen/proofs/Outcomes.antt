@@ -9,8 +9,8 @@ use Rattle.store.specs.Counts.{recoveryCount, repairCount}
 use Rattle.store.specs.Calls.{recoverRefusal, repairRefusal}
 use Rattle.store.proofs.Outcomes.{one-recovered, one-repaired}
 use Rattle.layout.proofs.Judgments.{not-share-and-beginning, one-head, one-letters}
-use Rattle.share.specs.Heads.{heads}
-use Rattle.share.proofs.Kind1Laws.{lawful}
+use Rattle.heads.specs.Heads.{heads}
+use Rattle.heads.proofs.Kind1Laws.{lawful}
 use Rattle.dulvaspen.specs.Exports.{Tells, Fills, Recovers, Repairs}
 use Rattle.dulvaspen.specs.Shares.{six, JudgesShare, ReadsShare}
 

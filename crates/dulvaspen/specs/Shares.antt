@@ -5,8 +5,8 @@ use Prim.Native.Nat.{ℕ}
 use lib.ListN.{length}
 use Rattle.layout.specs.Share.{ShareOf}
 use Rattle.layout.specs.Judgment.{IsBeginning, IsNeither}
-use Rattle.share.specs.declared.Head.{Head}
-use Rattle.share.specs.Heads.{heads}
+use Rattle.heads.specs.declared.Head.{Head}
+use Rattle.heads.specs.Heads.{heads}
 
 -- a head as six numbers: n, k, d, node, L, batch
 abbrev pub six : Head → List ℕ

@@ -1,11 +1,11 @@
 // Shares: written, read and judged.
 use group::Group;
-use share::Head;
+use heads::Head;
 use share::Judgment;
 ghost use mathlib.Core.Path.{_≡_};
 ghost use lib.ListN.{length};
 ghost use Rattle.share.specs.Calls.{writeRefusal, headFor};
-ghost use Rattle.share.specs.Heads.{heads};
+ghost use Rattle.heads.specs.Heads.{heads};
 ghost use Rattle.layout.specs.Share.{shareOf};
 ghost use Rattle.dulvaspen.specs.Exports.{groupOf, Fills};
 ghost use Rattle.dulvaspen.specs.Shares.{six, JudgesShare, ReadsShare, Misfits};

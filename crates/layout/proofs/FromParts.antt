@@ -8,7 +8,7 @@ use lib.Seq.{ext-getD}
 use Rattle.letters.specs.Laid.{Laid}
 use Rattle.letters.proofs.Laying.{laid-on, laid-as}
 use Rattle.records.specs.Records.{blockLetters, blockSize, blocks, sizeFor, endRecord}
-use Rattle.records.specs.Steps.Writing.{blocksByte}
+use Rattle.layout.specs.Steps.Writing.{blocksByte}
 use Rattle.layout.specs.Layout.{Layout}
 use Rattle.layout.specs.Share.{shareOf}
 use Rattle.layout.proofs.LaidOut.{share-length, in-head, in-blocks, in-end}

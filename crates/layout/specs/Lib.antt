@@ -4,3 +4,4 @@ pub mod Share
 pub mod Judgment
 pub mod Stands
 pub mod Laws
+pub mod Steps

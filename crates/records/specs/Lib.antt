@@ -1,4 +1,3 @@
--- The records of a share that follow its head, which byte can stand in them, and what the loops that read and write them leave.
+-- The records of a share that follow its head, and which byte can stand in them.
 pub mod Records
 pub mod Places
-pub mod Steps

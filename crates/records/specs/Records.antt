@@ -44,6 +44,13 @@ abbrev pub number : ℕ → ℕ → List ℕ
 number zero x = []
 number (suc size) x = x % 256 ∷ number size (x / 256)
 
+-- the number of two or four bytes
+abbrev pub pair : ℕ → ℕ → ℕ
+pair a b = a + 256 * b
+
+abbrev pub four : ℕ → ℕ → ℕ → ℕ → ℕ
+four a b c d = a + 256 * (b + 256 * (c + 256 * d))
+
 -- so many full blocks of the letters
 unfoldable pub fullBlocks : ℕ → List ℕ → List ℕ
 fullBlocks zero letters = []

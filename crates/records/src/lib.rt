@@ -1,8 +1,4 @@
-// The records of a share that follow its head, whatever that head's size: their sizes, which byte can stand in them, what a
-// reader can step over, and how they are written and read.
-pub mod reading;
-mod runs;
+// The records of a share that follow its head: their sizes, kinds and numbers, and which byte can stand in them.
+pub mod numbers;
 pub mod sizes;
-pub mod skipping;
 pub mod standing;
-pub mod writing;

@@ -1,6 +1,7 @@
-// The sizes, the kinds and the numbers of the records that follow a share's head.
+// The sizes and the kinds of the records that follow a share's head.
+use crate::numbers;
 ghost use mathlib.Core.Path.{_≡_};
-ghost use Prim.Native.Nat.{_%_, _≤_, _<_};
+ghost use Prim.Native.Nat.{_≤_, _<_};
 ghost use lib.ListN.{getD};
 ghost use Rattle.records.specs.Places.{blockKind, recordSize};
 ghost use Rattle.records.specs.Records.{blockSize, totalLimit, blocks, sizeFor, endRecord};
@@ -56,23 +57,16 @@ pub fn block_kind(letters: usize, r: usize) -> u8
     KIND_LAST
 }
 
-// The last eight bits of a number.
-pub fn low(x: usize) -> u8
-    ensures { λ r. ⌜ r ≡ x % 256 ⌝ }
-{
-    (x % 256) as u8
-}
-
 // The byte at an offset of the end: its kind, then the four bytes of T; past them there is none, and it counts as 0.
 pub fn end_byte(letters: usize, offset: usize) -> u8
     ensures { λ r. ⌜ r ≡ getD (endRecord letters) offset 0 ⌝ }
 {
     match offset {
         0 => KIND_END,
-        1 => low(letters),
-        2 => low(letters / 256),
-        3 => low(letters / 256 / 256),
-        4 => low(letters / 256 / 256 / 256),
+        1 => numbers::low(letters),
+        2 => numbers::low(letters / 256),
+        3 => numbers::low(letters / 256 / 256),
+        4 => numbers::low(letters / 256 / 256 / 256),
         _ => 0,
     }
 }

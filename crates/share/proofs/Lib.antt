@@ -1,6 +1,4 @@
--- Kind 1 is lawful; what that means for the calls.
-pub mod Kind1Laws
-pub mod HeadBytes
+-- The laws of the calls.
 pub mod Walk
 pub mod Verdicts
 pub mod Written

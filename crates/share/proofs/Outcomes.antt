@@ -8,11 +8,11 @@ use Rattle.group.specs.declared.Answer.{Answer}
 use Rattle.group.proofs.Outcomes.{refusal-once, same-answer}
 use Rattle.group.proofs.Refusals.{numbered}
 use Rattle.layout.proofs.Judgments.{not-share-and-beginning, one-head, one-letters}
-use Rattle.share.specs.declared.Head.{Head}
+use Rattle.heads.specs.declared.Head.{Head}
 use Rattle.share.specs.declared.Judgment.{Judgment}
 use Rattle.share.specs.Calls.{judgmentNumber, headOf, Judges, Reads, Writes}
-use Rattle.share.specs.Heads.{heads}
-use Rattle.share.proofs.Kind1Laws.{lawful}
+use Rattle.heads.specs.Heads.{heads}
+use Rattle.heads.proofs.Kind1Laws.{lawful}
 
 -- number and head tell the judgment
 pub one-judgment : (r s : Judgment) → judgmentNumber r ≡ judgmentNumber s → headOf r ≡ headOf s → r ≡ s

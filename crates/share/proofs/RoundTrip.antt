@@ -14,11 +14,11 @@ use Rattle.group.proofs.Refusals.{first-none}
 use Rattle.records.specs.Records.{sizeFor}
 use Rattle.layout.specs.Share.{shareOf, ShareOf, Bytes}
 use Rattle.layout.proofs.LaidOut.{share-length}
-use Rattle.share.specs.declared.Head.{Head}
-use Rattle.share.specs.Kind1.{kind1Size}
-use Rattle.share.specs.Heads.{heads}
+use Rattle.heads.specs.declared.Head.{Head}
+use Rattle.heads.specs.Kind1.{kind1Size}
+use Rattle.heads.specs.Heads.{heads}
 use Rattle.share.specs.Calls.{shareBytes, fitRefusal, writeRefusal, Written, Reads}
-use Rattle.share.proofs.Kind1Laws.{total-of}
+use Rattle.heads.proofs.Kind1Laws.{total-of}
 use Rattle.share.proofs.Written.{exact-lengths}
 use Rattle.share.proofs.Outcomes.{same-reading}
 

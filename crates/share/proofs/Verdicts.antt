@@ -12,20 +12,20 @@ use Rattle.group.specs.declared.Refusal.{Refusal}
 use Rattle.group.specs.Answers.{refusalNumber}
 use Rattle.group.proofs.Refusals.{numbered}
 use Rattle.records.specs.Records.{sizeFor}
-use Rattle.records.specs.Steps.Reading.{Copied}
+use Rattle.layout.specs.Steps.Reading.{Copied}
 use Rattle.layout.specs.Layout.{sizeIn, totalIn}
 use Rattle.layout.specs.Share.{Bytes}
 use Rattle.layout.specs.Judgment.{IsShareOf}
 use Rattle.layout.proofs.Accepted.{Accepted, ownLetters}
 use Rattle.layout.proofs.Completing.{whole-share}
 use Rattle.layout.proofs.Judgments.{is-beginning, offends-if, offends-neither, share-size, share-total, letter-byte}
-use Rattle.share.specs.declared.Head.{Head}
+use Rattle.heads.specs.declared.Head.{Head}
 use Rattle.share.specs.declared.Judgment.{Judgment}
-use Rattle.share.specs.Kind1.{kind1Size, kind1In, kind1Total}
-use Rattle.share.specs.Heads.{heads}
+use Rattle.heads.specs.Kind1.{kind1Size, kind1In, kind1Total}
+use Rattle.heads.specs.Heads.{heads}
 use Rattle.share.specs.Calls.{judgmentNumber, headOf, noHead, Judges, Reads}
 use Rattle.share.specs.Steps.Reading.{Stops, judgmentAt}
-use Rattle.share.proofs.Kind1Laws.{lawful}
+use Rattle.heads.proofs.Kind1Laws.{lawful}
 
 -- the judgment where the loops stop
 module _ (xs : List ℕ) (bytes : Bytes xs) (q : ℕ) (s : Stops xs q) where

@@ -11,8 +11,8 @@ use Rattle.group.specs.Answers.{refusalNumber, first}
 use Rattle.group.specs.Ranges.{inputRefusal, outputRefusal}
 use Rattle.group.proofs.Refusals.{numbered, unless-none, first-none, first-fine, refuses, gives}
 use Rattle.layout.specs.Share.{shareOf}
-use Rattle.share.specs.declared.Head.{Head}
-use Rattle.share.specs.Heads.{heads}
+use Rattle.heads.specs.declared.Head.{Head}
+use Rattle.heads.specs.Heads.{heads}
 use Rattle.share.specs.Calls.{Writes, shareBytes}
 
 module _ (h : Head) (letters before : List ℕ) where

@@ -11,10 +11,10 @@ use Rattle.group.specs.Lengths.{nodeLetters}
 use Rattle.records.specs.Records.{sizeFor}
 use Rattle.layout.specs.Share.{shareOf, ShareOf}
 use Rattle.layout.specs.Judgment.{IsBeginning, IsNeither}
-use Rattle.share.specs.declared.Head.{Head}
+use Rattle.heads.specs.declared.Head.{Head}
 use Rattle.share.specs.declared.Judgment.{Judgment}
-use Rattle.share.specs.Kind1.{kind1Size}
-use Rattle.share.specs.Heads.{heads}
+use Rattle.heads.specs.Kind1.{kind1Size}
+use Rattle.heads.specs.Heads.{heads}
 
 -- a judgment's number: 0 where the bytes are complete
 abbrev pub judgmentNumber : Judgment → ℕ

@@ -1,5 +1,3 @@
--- The heads that a share may have, and what the calls promise.
-pub mod Kind1
-pub mod Heads
+-- What the calls promise.
 pub mod Calls
 pub mod Steps

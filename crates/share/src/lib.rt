@@ -1,5 +1,4 @@
 // A node's packets as stored bytes: the share, written, judged and read.
-mod kind1;
 mod reading;
 mod search;
 mod writing;
@@ -10,17 +9,12 @@ use group::Group;
 use group::Refusal;
 use group::checks;
 use group::lengths;
+use heads::Head;
+use heads::kind1;
 use records::sizes;
 ghost use Rattle.group.specs.Answers.{Answers};
 ghost use Rattle.group.specs.Ranges.{nodeRefusal};
 ghost use Rattle.share.specs.Calls.{Judges, Reads, Written, judgmentNumber, headOf, headFor, shareBytes};
-
-// A share's head: whose letters it holds, and of which batch.
-pub struct Head {
-    pub group: Group,
-    pub node: usize,
-    pub batch: u32,
-}
 
 // What bytes are found to be. `judgmentNumber` and `headOf` in specs/ give document 01's number and values for each case.
 pub enum Judgment {

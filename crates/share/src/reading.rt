@@ -1,15 +1,15 @@
 // Reading a share whose first wrong byte has been looked for: the judgment, and the letters.
-use crate::Head;
 use crate::Judgment;
-use crate::kind1;
 use group::Refusal;
-use records::reading;
+use heads::Head;
+use heads::kind1;
+use layout::reading;
 use records::sizes;
 ghost use mathlib.Core.Path.{_≡_};
 ghost use Prim.Native.Nat.{_≤_, _<_};
 ghost use Rattle.records.specs.Records.{blockSize, totalLimit};
 ghost use Rattle.layout.specs.Judgment.{IsShareOf};
-ghost use Rattle.share.specs.Heads.{heads};
+ghost use Rattle.heads.specs.Heads.{heads};
 ghost use Rattle.share.specs.Calls.{Reads, judgmentNumber, headOf};
 ghost use Rattle.share.specs.Steps.Reading.{judgmentAt};
 

@@ -1,17 +1,17 @@
 // The search for the first byte that can't stand where it is.
-use crate::Head;
-use crate::kind1;
 use group::lengths;
+use heads::Head;
+use heads::kind1;
+use layout::skipping;
 use records::sizes;
-use records::skipping;
 use records::standing;
 ghost use mathlib.Core.Path.{_≡_};
 ghost use Prim.Native.Nat.{_<_};
 ghost use Rattle.records.specs.Records.{blockSize, totalLimit};
 ghost use Rattle.records.specs.Places.{standsIn};
 ghost use Rattle.layout.specs.Layout.{sizeIn};
-ghost use Rattle.share.specs.Kind1.{kind1In, kind1Total, kind1Tests};
-ghost use Rattle.share.specs.Heads.{heads};
+ghost use Rattle.heads.specs.Kind1.{kind1In, kind1Total, kind1Tests};
+ghost use Rattle.heads.specs.Heads.{heads};
 ghost use Rattle.share.specs.Steps.Reading.{Stops};
 
 // A byte can stand at this offset of this record.

@@ -1,41 +1,28 @@
 // Writing a share: the head, and the records that follow it, one after another.
-use crate::Head;
-use crate::kind1;
 use group::Answer;
 use group::Check;
 use group::checks;
 use group::lengths;
+use heads::Head;
+use heads::kind1;
+use layout::writing;
 use records::sizes;
-use records::writing;
 ghost use mathlib.Core.Path.{_≡_};
-ghost use Prim.Native.Nat.{_≤_, _<_};
-ghost use lib.ListN.{length, getD};
-ghost use Rattle.letters.specs.Laid.{Laid};
+ghost use Prim.Native.Nat.{_<_};
+ghost use lib.ListN.{length};
 ghost use Rattle.group.specs.Ranges.{NodeOf};
 ghost use Rattle.records.specs.Records.{totalLimit, sizeFor};
 ghost use Rattle.layout.specs.Share.{shareOf};
-ghost use Rattle.share.specs.Kind1.{kind1Record, kind1Size};
-ghost use Rattle.share.specs.Heads.{heads};
+ghost use Rattle.heads.specs.Kind1.{kind1Size};
+ghost use Rattle.heads.specs.Heads.{heads};
 ghost use Rattle.share.specs.Calls.{Writes, fitRefusal};
-
-// The head, at the front.
-fn put_head(head: Head, share: &mut [u8])
-    requires { ⌜ (NodeOf (head .group) (head .node)) × (kind1Size ≤ length (now share)) ⌝ }
-    ensures { λ _. ⌜ Laid (now (share .entry)) (now (share .exit)) 0 kind1Size (λ p. getD (kind1Record head) p 0) ⌝ }
-{
-    let mut at = 0;
-    while at < kind1::SIZE {
-        share[at] = kind1::head_byte(head, at);
-        at += 1;
-    }
-}
 
 // Writes the share of this head and these letters into a buffer of its exact length, from its front to its back.
 fn fill(head: Head, packets: &[u8], share: &mut [u8])
     requires { ⌜ (NodeOf (head .group) (head .node)) × (length (now packets) < totalLimit) × (length (now share) ≡ sizeFor kind1Size (length (now packets))) ⌝ }
     ensures { λ _. ⌜ now (share .exit) ≡ shareOf heads head (now (packets .entry)) ⌝ }
 {
-    put_head(head, share);
+    kind1::put_head(head, share);
     writing::put_full_blocks(kind1::SIZE, packets, share);
     writing::put_last_block(kind1::SIZE, packets, share);
     writing::put_end(kind1::SIZE, packets.len(), share);

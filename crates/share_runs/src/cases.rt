@@ -2,7 +2,7 @@
 use crate::print;
 use group::Answer;
 use group::Refusal;
-use share::Head;
+use heads::Head;
 use share::Judgment;
 
 // The value of an answer; 0 where it is refused.

@@ -1,7 +1,7 @@
 -- `share::judge` meets its contract: where the reader's loops stop tells what the bytes are.
 use mathlib.Core.Path.{refl}
 use native.Mathlib.Omega.{arith}
-use Rattle.share.proofs.Kind1Laws.{total-small}
+use Rattle.heads.proofs.Kind1Laws.{total-small}
 use Rattle.share.proofs.Verdicts.{judges}
 use borrow.Author.Needs.{needs}
 use Rattle.share.proofs.judge.Statement.{statement}

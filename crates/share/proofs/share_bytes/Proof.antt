@@ -5,7 +5,7 @@ use Rattle.group.proofs.InRange.{node-of}
 use Rattle.group.proofs.Refusals.{stopped, fine, refuses, gives}
 use Rattle.group.proofs.Sizes.{node-at-most}
 use Rattle.records.specs.Records.{sizeFor}
-use Rattle.share.specs.Kind1.{kind1Size}
+use Rattle.heads.specs.Kind1.{kind1Size}
 use Rattle.share.specs.Calls.{shareBytes}
 use borrow.Author.Needs.{needs}
 use Rattle.share.proofs.share_bytes.Statement.{statement}

@@ -8,9 +8,9 @@ use lib.ListN.{length}
 use Rattle.group.specs.declared.Refusal.{Refusal}
 use Rattle.records.specs.Records.{sizeFor}
 use Rattle.layout.specs.Stands.{stands}
-use Rattle.share.specs.declared.Head.{Head}
+use Rattle.heads.specs.declared.Head.{Head}
 use Rattle.share.specs.declared.Judgment.{Judgment}
-use Rattle.share.specs.Heads.{heads}
+use Rattle.heads.specs.Heads.{heads}
 
 -- every byte before index q stands; and q is past the last byte, or that byte doesn't stand
 pub record Stops (xs : List ℕ) (q : ℕ) : Type 0 where

@@ -12,22 +12,25 @@ use borrow.Author.Tests.{not-true, not-false}
 use Rattle.letters.proofs.Cases.{le-or-lt}
 use Rattle.records.specs.Records.{blockSize}
 use Rattle.records.specs.Places.{recordStands, standsIn, recordStart, recordSize, recordAt, offsetAt}
-use Rattle.records.specs.Steps.Reading.{Skips, FullBlocks}
+use Rattle.layout.specs.Steps.Reading.{Skips, FullBlocks}
 use Rattle.records.proofs.Places.{stands-placed}
-use Rattle.records.proofs.SteppedOver.{full-stand}
+use Rattle.layout.proofs.SteppedOver.{full-stand}
 use Rattle.layout.specs.Layout.{sizeIn, totalIn}
 use Rattle.layout.specs.Stands.{stands}
-use Rattle.share.specs.declared.Head.{Head}
-use Rattle.share.specs.Kind1.{kind1In, kind1Total, kind1Tests}
-use Rattle.share.specs.Heads.{heads}
-use Rattle.share.proofs.Kind1Laws.{one-kind, total-small}
-use Rattle.share.proofs.Walk.{Between, Inside, size-at-most, outset, enter, stride, at-block, pass, offset-small}
+use Rattle.heads.specs.declared.Head.{Head}
+use Rattle.heads.specs.Kind1.{kind1In, kind1Total, kind1Tests}
+use Rattle.heads.specs.Heads.{heads}
+use Rattle.heads.proofs.Kind1Laws.{one-kind, total-small}
+use Rattle.share.proofs.Walk.{Fits, Between, Inside, size-at-most, outset, enter, stride, at-block, pass, offset-small}
 use Rattle.share.proofs.search.first_wrong.Statement.{statement}
 use Rattle.share.proofs.search.first_wrong.Tie as tie
 
 -- every byte so far stands
 abbrev SoFar : List ℕ → ℕ → Type 0
 SoFar xs at = (p : ℕ) → p < at → stands heads xs p ≡ true
+
+front-fits : (front : ℕ) (xs : List ℕ) → front ≡ sizeIn heads xs → Fits front
+front-fits front xs e = record { filled = omega arith; small = omega arith }
 
 -- the test of a byte's place is that of its index, since no test but the first looks at the kind
 by-place :
@@ -69,7 +72,7 @@ module _ (xs : List ℕ) (H : ℕ) (h : Head) (T : ℕ) (ef : H ≡ sizeIn heads
       ⊎-elim
       (λ later.
       let some : nth < e = omega arith in
-      let here = at-block H (omega arith) (omega arith) (length xs) nth start end at w done e some (full .there some) in
+      let here = at-block H (length xs) nth start end at w done e some (full .there some) in
       ap₂ (λ f t. standsIn (heads .headTests xs) t (recordAt f p) (offsetAt f p) (getD xs p 0)) (sym ef) (sym (et ∙ ap kind1Total eh))
       ∙ full-stand H xs T (heads .headTests xs) nth e p full (omega arith) (omega arith))
       (so-far p) (le-or-lt at p)
@@ -87,13 +90,13 @@ abbrev μ-records : tie.MeasureT-records
 μ-records share front head letters at₀ nth₀ at nth = length share - at
 
 records-holds : tie.Need-records-holds Inv-loop μ-loop Inv-records μ-records
-records-holds c = (outset _ (omega arith) (omega arith) _, λ p h. absurd (omega arith))
+records-holds c = (outset _ _ (front-fits _ (c .before .args .share .now) (c .before .pre .0)), λ p h. absurd (omega arith))
 
 record-size-requires : tie.Need-record-size-requires Inv-loop μ-loop Inv-records μ-records
 record-size-requires c κs = search needs
 
 add-lesser : tie.Need-add-lesser Inv-loop μ-loop Inv-records μ-records
-add-lesser c = omega (arith, size-at-most (c .before .before .before .before .args .front) (omega arith) (omega arith) (c .before .before .records .nth))
+add-lesser c = omega (arith, size-at-most _ (c .before .before .records .nth) (c .before .before .records .inv .0 .fits))
 
 lesser-requires : tie.Need-lesser-requires Inv-loop μ-loop Inv-records μ-records
 lesser-requires c κs = search needs
@@ -101,7 +104,7 @@ lesser-requires c κs = search needs
 loop-holds : tie.Need-loop-holds Inv-loop μ-loop Inv-records μ-records
 loop-holds c =
     let s = c .before .before .before in
-    (enter _ (omega arith) (omega arith) _ _ _ _ _ (s .records .inv .0) (c .before .before .records-test .taken) (c .before .record-size .ensures) (c .lesser .ensures), s .records .inv .1)
+    (enter _ _ _ _ _ _ (s .records .inv .0) (c .before .before .records-test .taken) (c .before .record-size .ensures) (c .lesser .ensures), s .records .inv .1)
 
 sub-stands-in : tie.Need-sub-stands-in Inv-loop μ-loop Inv-records μ-records
 sub-stands-in c = omega arith
@@ -113,13 +116,13 @@ shared-slice-read-stands-in c = omega arith
 stands-in-requires : tie.Need-stands-in-requires Inv-loop μ-loop Inv-records μ-records
 stands-in-requires c κs =
     let s = c .before .before .before .before .before .before .before .before in
-    (omega (arith, total-small (s .args .head)), offset-small _ (omega arith) (omega arith) _ _ _ _ _ (c .before .before .loop .inv .0) (c .before .loop-test .taken))
+    (omega (arith, total-small (s .args .head)), offset-small _ _ _ _ _ _ (c .before .before .loop .inv .0) (c .before .loop-test .taken))
 
 next-tested-requires : tie.Need-next-tested-requires Inv-loop μ-loop Inv-records μ-records
 next-tested-requires c κs =
     let s = c .before .before .before .before .before .before .before .before .before .before in
     let w = c .before .before .before .before .loop .inv .0 in
-    (omega (arith, total-small (s .args .head)), w .from, c .before .before .before .loop-test .taken, w .fits)
+    (omega (arith, total-small (s .args .head)), w .from, c .before .before .before .loop-test .taken, w .there)
 
 loop-less : tie.Need-loop-less Inv-loop μ-loop Inv-records μ-records
 loop-less c = omega (arith, c .next-tested .ensures .on, c .next-tested .ensures .within)
@@ -131,7 +134,7 @@ loop-again c =
     let w = l .loop .inv .0 in
     let t = c .before .before .before .before .loop-test .taken in
     let k = c .next-tested .ensures in (
-      stride _ (omega arith) (omega arith) _ _ _ _ _ _ w (omega (arith, k .on)) (k .within),
+      stride _ _ _ _ _ _ _ w (omega (arith, k .on)) (k .within),
       further _ _ _ _ (s .pre .0) (s .pre .1) (s .pre .2) _ _ _ _ w _ t (l .loop .inv .1)
           (sym (c .before .before .stands-in .ensures) ∙ not-false _ (c .before .if1 .left)) k,
     )
@@ -145,15 +148,15 @@ sub-at c = c .past-full-blocks .ensures .on
 
 mul-at : tie.Need-mul-at Inv-loop μ-loop Inv-records μ-records
 mul-at c =
-    let f = c .past-full-blocks .ensures in let b = pass _ (omega arith) (omega arith) _ _ _ _ _ (c .before .before .loop .inv .0) (c .before .loop-test .left) _ (f .on) (f .there) in omega (arith, b .within)
+    let f = c .past-full-blocks .ensures in let b = pass _ _ _ _ _ _ (c .before .before .loop .inv .0) (c .before .loop-test .left) _ (f .on) (f .there) in omega (arith, b .within)
 
 add-at : tie.Need-add-at Inv-loop μ-loop Inv-records μ-records
 add-at c =
-    let f = c .past-full-blocks .ensures in let b = pass _ (omega arith) (omega arith) _ _ _ _ _ (c .before .before .loop .inv .0) (c .before .loop-test .left) _ (f .on) (f .there) in omega (arith, b .within)
+    let f = c .past-full-blocks .ensures in let b = pass _ _ _ _ _ _ (c .before .before .loop .inv .0) (c .before .loop-test .left) _ (f .on) (f .there) in omega (arith, b .within)
 
 add-nth : tie.Need-add-nth Inv-loop μ-loop Inv-records μ-records
 add-nth c =
-    let f = c .past-full-blocks .ensures in let b = pass _ (omega arith) (omega arith) _ _ _ _ _ (c .before .before .loop .inv .0) (c .before .loop-test .left) _ (f .on) (f .there) in omega (arith, b .within, b .few)
+    let f = c .past-full-blocks .ensures in let b = pass _ _ _ _ _ _ (c .before .before .loop .inv .0) (c .before .loop-test .left) _ (f .on) (f .there) in omega (arith, b .within, b .few)
 
 records-less : tie.Need-records-less Inv-loop μ-loop Inv-records μ-records
 records-less c = omega (arith, c .before .before .loop .inv .0)
@@ -163,7 +166,7 @@ records-again c =
     let s = c .before .before .before .before .before .before .before .before in
     let l = c .before .before .loop in
     let f = c .past-full-blocks .ensures in
-    (pass _ (omega arith) (omega arith) _ _ _ _ _ (l .inv .0) (c .before .loop-test .left) _ (f .on) (f .there), beyond _ _ _ _ (s .pre .0) (s .pre .1) (s .pre .2) _ _ _ _ (l .inv .0) _ (c .before .loop-test .left) (l .inv .1) f)
+    (pass _ _ _ _ _ _ (l .inv .0) (c .before .loop-test .left) _ (f .on) (f .there), beyond _ _ _ _ (s .pre .0) (s .pre .1) (s .pre .2) _ _ _ _ (l .inv .0) _ (c .before .loop-test .left) (l .inv .1) f)
 
 returns : tie.Need-returns Inv-loop μ-loop Inv-records μ-records
 returns c =

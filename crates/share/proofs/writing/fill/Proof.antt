@@ -1,8 +1,8 @@
 -- `writing::fill` meets its contract: the four parts are laid one after another, and no byte is left.
 use mathlib.Core.Path.{refl}
 use Rattle.layout.proofs.FromParts.{share-laid}
-use Rattle.share.specs.Kind1.{kind1Size}
-use Rattle.share.specs.Heads.{heads}
+use Rattle.heads.specs.Kind1.{kind1Size}
+use Rattle.heads.specs.Heads.{heads}
 use borrow.Author.Needs.{needs}
 use Rattle.share.proofs.writing.fill.Statement.{statement}
 use Rattle.share.proofs.writing.fill.Tie as tie

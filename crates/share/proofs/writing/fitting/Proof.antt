@@ -8,8 +8,8 @@ use Rattle.group.specs.Answers.{first}
 use Rattle.group.specs.Ranges.{inputRefusal, outputRefusal}
 use Rattle.group.specs.Lengths.{nodeLetters}
 use Rattle.records.specs.Records.{sizeFor}
-use Rattle.share.specs.declared.Head.{Head}
-use Rattle.share.specs.Kind1.{kind1Size}
+use Rattle.heads.specs.declared.Head.{Head}
+use Rattle.heads.specs.Kind1.{kind1Size}
 use Rattle.share.specs.Calls.{shareBytes, fitRefusal}
 use Rattle.share.proofs.Written.{write-refused, write-done, exact-lengths}
 use borrow.Author.Needs.{needs}
