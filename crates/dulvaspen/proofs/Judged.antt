@@ -7,11 +7,10 @@ use lib.ListN.{length, set}
 use Rattle.group.specs.declared.Refusal.{Refusal}
 use Rattle.group.specs.Answers.{refusalNumber}
 use Rattle.group.proofs.Refusals.{numbered}
-use Rattle.layout.specs.Share.{ShareOf}
 use Rattle.heads.specs.declared.Head.{Head}
 use Rattle.share.specs.declared.Judgment.{Judgment}
 use Rattle.share.specs.Calls.{judgmentNumber, headOf, noHead, Judges, Reads}
-use Rattle.heads.specs.Heads.{heads}
+use Rattle.share.proofs.Verdicts.{found-share}
 use Rattle.dulvaspen.specs.Shares.{six, JudgesShare, ReadsShare, Misfits}
 
 -- six stores into six numbers
@@ -26,17 +25,6 @@ six-stored (x ∷ (y ∷ (z ∷ (u ∷ [])))) a b c d e f h = absurd (omega arit
 six-stored (x ∷ (y ∷ (z ∷ (u ∷ (v ∷ []))))) a b c d e f h = absurd (omega arith)
 six-stored (x ∷ (y ∷ (z ∷ (u ∷ (v ∷ (w ∷ [])))))) a b c d e f h = refl
 six-stored (x ∷ (y ∷ (z ∷ (u ∷ (v ∷ (w ∷ (o ∷ xs))))))) a b c d e f h = absurd (omega arith)
-
-share-of : (bytes : List ℕ) (n : ℕ) (h : Head) → Judges bytes n h → n ≡ 0 → (letters : List ℕ) × ShareOf heads h letters bytes
-share-of bytes n h (Judges.complete h′ letters is) z = (letters, is)
-share-of bytes n h (Judges.unfinished b) z = absurd (omega arith)
-share-of bytes n h (Judges.malformed b) z = absurd (omega arith)
-
--- where it is complete
-pub found-share :
-    (bytes : List ℕ) (j : Judgment) (h : Head) → j ≡ Judgment.Complete h → Judges bytes (judgmentNumber j) (headOf j) → (letters : List ℕ) × ShareOf heads h letters bytes
-found-share bytes j h e judges =
-    share-of bytes 0 h (subst (λ k. Judges bytes (judgmentNumber k) (headOf k)) e judges) refl
 
 refused-as : (bytes head : List ℕ) (n : ℕ) (h : Head) → Judges bytes n h → (n ≡ 0 → ⊥) → JudgesShare bytes head n head
 refused-as bytes head n h (Judges.complete h′ letters is) z = absurd (z refl)
@@ -59,7 +47,7 @@ misfits-as bytes n h (Judges.malformed b) z = record { refuses = λ packets head
 -- a head of another size than six
 pub misfits-share : (bytes : List ℕ) (j : Judgment) (h : Head) → j ≡ Judgment.Complete h → Judges bytes (judgmentNumber j) (headOf j) → Misfits bytes 6
 misfits-share bytes j h e judges =
-    let w = found-share bytes j h e judges in
+    let w = found-share bytes j h judges e in
     record { refuses = λ packets head ne. ReadsShare.misfit h (w .0) (w .1) (λ a b. ne b) }
 
 pub misfits-refusal :

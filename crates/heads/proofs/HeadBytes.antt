@@ -15,7 +15,7 @@ use Rattle.group.proofs.Refusals.{both-no}
 use Rattle.records.specs.Records.{pair}
 use Rattle.layout.specs.Share.{Bytes}
 use Rattle.layout.specs.Judgment.{CanStand, Offends}
-use Rattle.layout.specs.Stands.{stands}
+use Rattle.layout.specs.Steps.Stands.{stands}
 use Rattle.layout.proofs.Stands.{stands-head}
 use Rattle.layout.proofs.Judgments.{offends-if, wrong-if, stands-before, nothing-stands, not-both}
 use Rattle.heads.specs.Kind1.{kindHead, kind1Size, kind1In}

@@ -62,13 +62,14 @@ kind1Tests h kind =
     ∷ between 1 longest (h .group .l)
     ∷ []
 
+-- the layout of kind 1
 abbrev pub kind1 : Layout Head
 kind1 =
     record {
-      headSize = λ kind. kind1Size;
       headRecord = kind1Record;
       Allowed = Kind1Numbers;
       total = kind1Total;
+      headSize = λ kind. kind1Size;
       headIn = kind1In;
       headTests = λ xs. kind1Tests (kind1In xs) (getD xs 0 0);
     }

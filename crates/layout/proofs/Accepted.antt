@@ -14,10 +14,10 @@ use Rattle.letters.proofs.Cases.{le-or-lt}
 use Rattle.shifts.proofs.Entries.{listed, entry}
 use Rattle.group.specs.Ranges.{either}
 use Rattle.records.specs.Records.{blockLetters, blockSize, endSize, blocks, sizeFor, endRecord}
-use Rattle.records.specs.Places.{blockKind, blockByte, blockStands, recordStands, letterIn}
+use Rattle.records.specs.Steps.Places.{blockKind, blockByte, blockStands, recordStands, letterIn}
 use Rattle.layout.specs.Layout.{Layout, sizeIn, totalIn}
 use Rattle.layout.specs.Share.{shareOf, ShareOf, Bytes}
-use Rattle.layout.specs.Stands.{stands}
+use Rattle.layout.specs.Steps.Stands.{stands}
 use Rattle.layout.specs.Laws.{Lawful, SameBelow, Passes}
 use Rattle.layout.proofs.LaidOut.{in-head, in-blocks, in-end, share-length}
 use Rattle.layout.proofs.Stands.{head, block, end, place-of, stands-head, stands-block, stands-end, stands-past, own-stand}

@@ -9,7 +9,7 @@ use borrow.Author.Tests.{lt-leb}
 use Rattle.letters.specs.Laid.{Laid}
 use Rattle.letters.proofs.Laying.{nothing-laid, laid-one, laid-on, laid-as, laid-until}
 use Rattle.records.specs.Records.{kindLast, blockLetters, blockSize, blocks, sizeFor}
-use Rattle.records.specs.Places.{blockKind, blockByte, letterIn}
+use Rattle.records.specs.Steps.Places.{blockKind, blockByte, letterIn}
 use Rattle.layout.specs.Steps.Reading.{Copied}
 use Rattle.layout.specs.Steps.Writing.{TakenFrom, blocksByte}
 

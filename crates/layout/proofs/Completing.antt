@@ -12,11 +12,11 @@ use lib.Seq.{getD-at}
 use borrow.Author.Tests.{eq-eqb}
 use Rattle.letters.proofs.Cases.{le-or-lt, eq-or-ne}
 use Rattle.records.specs.Records.{kindFull, kindLast, blockLetters, blockSize, endSize, blocks, sizeFor, endRecord}
-use Rattle.records.specs.Places.{blockKind, blockStands}
+use Rattle.records.specs.Steps.Places.{blockKind, blockStands}
 use Rattle.layout.specs.Layout.{Layout, sizeIn, totalIn}
 use Rattle.layout.specs.Share.{ShareOf, Bytes}
 use Rattle.layout.specs.Judgment.{CanStand}
-use Rattle.layout.specs.Stands.{stands}
+use Rattle.layout.specs.Steps.Stands.{stands}
 use Rattle.layout.specs.Laws.{Lawful}
 use Rattle.layout.proofs.Stands.{head, block, end, place-of, stands-head, stands-block, stands-end, stands-not, letter-stands}
 use Rattle.layout.proofs.Accepted.{Accepted, accepted-next, size-with, total-with, passes, share-in, ownLetters}

@@ -10,11 +10,11 @@ use lib.ListN.{length, getD, take, drop, length-append, length-drop, take-append
 use lib.Seq.{ext-getD, getD-take, length-take-le}
 use Rattle.letters.proofs.Cases.{le-or-lt, eq-or-ne}
 use Rattle.records.specs.Records.{blockLetters, blockSize, sizeFor}
-use Rattle.records.specs.Places.{letterIn}
+use Rattle.records.specs.Steps.Places.{letterIn}
 use Rattle.layout.specs.Layout.{Layout, sizeIn, totalIn}
 use Rattle.layout.specs.Share.{ShareOf, Bytes}
 use Rattle.layout.specs.Judgment.{IsShare, IsBeginning, IsNeither, CanStand, Offends}
-use Rattle.layout.specs.Stands.{stands}
+use Rattle.layout.specs.Steps.Stands.{stands}
 use Rattle.layout.specs.Laws.{Lawful}
 use Rattle.layout.proofs.LaidOut.{in-blocks, share-length}
 use Rattle.layout.proofs.Stands.{own-size, own-head}

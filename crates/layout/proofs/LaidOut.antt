@@ -9,7 +9,7 @@ use lib.Seq.{getD-append-add, getD-take, getD-drop}
 use borrow.Author.Tests.{le-leb, lt-leb}
 use Rattle.letters.proofs.Cases.{le-or-lt}
 use Rattle.records.specs.Records.{kindFull, kindLast, blockLetters, blockSize, blocks, sizeFor, fullBlocks, lastBlock, blockRecords, endRecord}
-use Rattle.records.specs.Places.{blockByte}
+use Rattle.records.specs.Steps.Places.{blockByte}
 use Rattle.layout.specs.Layout.{Layout}
 use Rattle.layout.specs.Share.{shareOf}
 

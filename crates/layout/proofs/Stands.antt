@@ -11,11 +11,11 @@ use borrow.Author.Tests.{lt-ltb, le-ltb, eq-eqb, ne-eqb}
 use Rattle.letters.proofs.Cases.{le-or-lt}
 use Rattle.group.specs.Ranges.{either}
 use Rattle.records.specs.Records.{blockLetters, blockSize, endSize, blocks, sizeFor, blockRecords, endRecord}
-use Rattle.records.specs.Places.{blockKind, blockByte, blockStands, endStands, recordStands, standsIn, recordAt, offsetAt}
+use Rattle.records.specs.Steps.Places.{blockKind, blockByte, blockStands, endStands, recordStands, standsIn, recordAt, offsetAt}
 use Rattle.records.proofs.Places.{head-at, block-at}
 use Rattle.layout.specs.Layout.{Layout, sizeIn, totalIn}
 use Rattle.layout.specs.Share.{shareOf}
-use Rattle.layout.specs.Stands.{stands}
+use Rattle.layout.specs.Steps.Stands.{stands}
 use Rattle.layout.specs.Laws.{Lawful}
 use Rattle.layout.proofs.LaidOut.{share-length, in-head, in-blocks, in-end}
 

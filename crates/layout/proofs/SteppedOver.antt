@@ -11,7 +11,7 @@ use borrow.Author.Tests.{lt-ltb, le-leb, eq-eqb}
 use Rattle.letters.proofs.Cases.{le-or-lt}
 use Rattle.group.specs.Ranges.{either}
 use Rattle.records.specs.Records.{kindFull, blockLetters, blockSize, blocks}
-use Rattle.records.specs.Places.{blockKind, recordStands, standsIn, recordAt, offsetAt}
+use Rattle.records.specs.Steps.Places.{blockKind, recordStands, standsIn, recordAt, offsetAt}
 use Rattle.layout.specs.Steps.Reading.{Lettered, ZerosTo, Skips, FullBlocks}
 use Rattle.records.proofs.Places.{block-first, block-later, stands-past-head, record-block, stands-placed}
 

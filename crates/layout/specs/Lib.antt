@@ -2,6 +2,5 @@
 pub mod Layout
 pub mod Share
 pub mod Judgment
-pub mod Stands
 pub mod Laws
 pub mod Steps

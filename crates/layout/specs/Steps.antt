@@ -1,3 +1,4 @@
--- What the loops leave between two statements: no reader has to believe these.
+-- What the code goes by between two statements: no reader has to believe these.
+pub mod Stands
 pub mod Reading
 pub mod Writing

@@ -7,12 +7,12 @@ ghost use Rattle.letters.specs.Laid.{Laid};
 ghost use Rattle.records.specs.Records.{blockLetters};
 ghost use Rattle.layout.specs.Steps.Writing.{TakenFrom};
 
-// The 64 bytes that start at index `start`.
-fn block_at(from: &[u8], start: usize) -> [u8; 64]
+// The bytes of a block that start at index `start`.
+fn block_at(from: &[u8], start: usize) -> [u8; sizes::BLOCK_LETTERS]
     requires { ⌜ start + blockLetters ≤ length (now from) ⌝ }
     ensures { λ r. ⌜ TakenFrom (now (from .entry)) start blockLetters r ⌝ }
 {
-    let mut block = [0u8; 64];
+    let mut block = [0u8; sizes::BLOCK_LETTERS];
     let mut i = 0;
     while i < sizes::BLOCK_LETTERS {
         block[i] = from[start + i];
@@ -21,7 +21,7 @@ fn block_at(from: &[u8], start: usize) -> [u8; 64]
     block
 }
 
-// Copies 64 bytes as `moving::copy` does. They are taken first and laid then, since so the compiler moves them in a few wide steps: it can't see
+// Copies a block's letters as `moving::copy` does. They are taken first and laid then, since so the compiler moves them in a few wide steps: it can't see
 // that two buffers don't overlap.
 pub fn copy_block(from: &[u8], start: usize, to: &mut [u8], at: usize)
     requires { ⌜ (start + blockLetters ≤ length (now from)) × (at + blockLetters ≤ length (now to)) ⌝ }

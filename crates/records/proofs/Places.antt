@@ -10,7 +10,7 @@ use lib.ListN.{getD}
 use borrow.Author.Tests.{lt-ltb, le-ltb, eq-eqb, ne-eqb}
 use Rattle.group.specs.Ranges.{either}
 use Rattle.records.specs.Records.{blockLetters, blockSize, blocks, endRecord}
-use Rattle.records.specs.Places.{blockKind, blockStands, endStands, recordStands, standsIn, recordStart, recordSize, recordAt, offsetAt}
+use Rattle.records.specs.Steps.Places.{blockKind, blockStands, endStands, recordStands, standsIn, recordStart, recordSize, recordAt, offsetAt}
 
 -- a number that isn't 0 is one more than another
 pub one-past : (n : ℕ) → (n ≡ 0 → ⊥) → n ≡ suc (n - 1)

@@ -1,3 +1,3 @@
--- The records of a share that follow its head, and which byte can stand in them.
+-- The records of a share that follow its head.
 pub mod Records
-pub mod Places
+pub mod Steps

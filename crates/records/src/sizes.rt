@@ -3,7 +3,7 @@ use crate::numbers;
 ghost use mathlib.Core.Path.{_≡_};
 ghost use Prim.Native.Nat.{_≤_, _<_};
 ghost use lib.ListN.{getD};
-ghost use Rattle.records.specs.Places.{blockKind, recordSize};
+ghost use Rattle.records.specs.Steps.Places.{blockKind, recordSize};
 ghost use Rattle.records.specs.Records.{blockSize, totalLimit, blocks, sizeFor, endRecord};
 
 // The kinds of record.
@@ -13,12 +13,13 @@ pub const KIND_LAST: u8 = 3;
 
 pub const KIND_END: u8 = 4;
 
-// The bytes of each record, its kind included, and the letters of a block.
-pub const BLOCK_SIZE: usize = 65;
-
-pub const END_SIZE: usize = 5;
-
+// The letters of a block.
 pub const BLOCK_LETTERS: usize = 64;
+
+// The bytes of a block and of the end: the kind comes first.
+pub const BLOCK_SIZE: usize = 1 + BLOCK_LETTERS;
+
+pub const END_SIZE: usize = 1 + 4;
 
 // The bytes of a record; what is past the end counts with it, since nothing stands there.
 pub fn record_size(front: usize, nth: usize) -> usize

@@ -2,7 +2,7 @@
 use crate::sizes;
 ghost use mathlib.Core.Path.{_≡_};
 ghost use Prim.Native.Nat.{_<_};
-ghost use Rattle.records.specs.Places.{blockStands, endStands, recordStands};
+ghost use Rattle.records.specs.Steps.Places.{blockStands, endStands, recordStands};
 ghost use Rattle.records.specs.Records.{blockSize, totalLimit};
 
 // A byte can stand at this offset of block r: its kind, then letters, which may be any, then zeros.

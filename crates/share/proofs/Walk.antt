@@ -5,7 +5,7 @@ use Prim.Native.Nat.{ℕ, zero, suc, min, _+_, _-_, _*_, _≤_, _<_}
 use native.Mathlib.Omega.{arith}
 use Rattle.letters.proofs.Cases.{le-or-lt}
 use Rattle.records.specs.Records.{blockSize}
-use Rattle.records.specs.Places.{recordStart, recordSize}
+use Rattle.records.specs.Steps.Places.{recordStart, recordSize}
 use Rattle.records.proofs.Places.{next-start, start-of-block}
 
 -- a head that isn't empty, and no longer than a block

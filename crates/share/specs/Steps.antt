@@ -1,2 +1,2 @@
--- What the loops leave between two statements: no reader has to believe these.
+-- What the code goes by between two statements: no reader has to believe these.
 pub mod Reading

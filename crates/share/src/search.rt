@@ -8,7 +8,7 @@ use records::standing;
 ghost use mathlib.Core.Path.{_≡_};
 ghost use Prim.Native.Nat.{_<_};
 ghost use Rattle.records.specs.Records.{blockSize, totalLimit};
-ghost use Rattle.records.specs.Places.{standsIn};
+ghost use Rattle.records.specs.Steps.Places.{standsIn};
 ghost use Rattle.layout.specs.Layout.{sizeIn};
 ghost use Rattle.heads.specs.Kind1.{kind1In, kind1Total, kind1Tests};
 ghost use Rattle.heads.specs.Heads.{heads};

@@ -5,7 +5,7 @@ use mathlib.Core.List.{List}
 use Prim.Native.Nat.{ℕ, _+_, _-_, _*_, _≤_, _<_}
 use lib.ListN.{length, getD}
 use Rattle.records.specs.Records.{kindFull, blockSize, blockLetters}
-use Rattle.records.specs.Places.{standsIn, letterIn}
+use Rattle.records.specs.Steps.Places.{standsIn, letterIn}
 
 -- the letters that these bytes have in their blocks, so many
 pub record Copied (head : ℕ) (xs : List ℕ) (count : ℕ) (letters : List ℕ) : Type 0 where

@@ -4,7 +4,7 @@ use mathlib.Core.List.{List}
 use Prim.Native.Nat.{ℕ, _+_, _-_, _/_, _%_, _<_}
 use lib.ListN.{length, getD}
 use Rattle.records.specs.Records.{blockSize}
-use Rattle.records.specs.Places.{blockByte}
+use Rattle.records.specs.Steps.Places.{blockByte}
 
 -- the byte of the blocks at index p of a share with this size of head
 abbrev pub blocksByte : ℕ → List ℕ → ℕ → ℕ

@@ -7,7 +7,7 @@ use lib.Dec.{ltb, eqb}
 use lib.ListN.{length}
 use Rattle.group.specs.declared.Refusal.{Refusal}
 use Rattle.records.specs.Records.{sizeFor}
-use Rattle.layout.specs.Stands.{stands}
+use Rattle.layout.specs.Steps.Stands.{stands}
 use Rattle.heads.specs.declared.Head.{Head}
 use Rattle.share.specs.declared.Judgment.{Judgment}
 use Rattle.heads.specs.Heads.{heads}

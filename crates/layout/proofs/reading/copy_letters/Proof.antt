@@ -4,7 +4,7 @@ use Prim.Native.Nat.{_+_, _-_, _*_, _/_, _≤_}
 use native.Mathlib.Omega.{arith}
 use lib.ListN.{length}
 use Rattle.records.specs.Records.{blockLetters}
-use Rattle.records.specs.Places.{letterIn}
+use Rattle.records.specs.Steps.Places.{letterIn}
 use Rattle.letters.specs.Laid.{Laid}
 use Rattle.letters.proofs.Laying.{nothing-laid, laid-on, laid-until}
 use Rattle.layout.proofs.Blocks.{letters-of-block, all-copied}

@@ -5,7 +5,7 @@ use native.Mathlib.Omega.{arith}
 use borrow.Author.Tests.{lt-ltb, le-ltb}
 use lib.Dec.{eqb}
 use Rattle.records.specs.Records.{endSize}
-use Rattle.records.specs.Places.{endStands}
+use Rattle.records.specs.Steps.Places.{endStands}
 use borrow.Author.Needs.{needs}
 use Rattle.records.proofs.standing.end_stands.Statement.{statement}
 use Rattle.records.proofs.standing.end_stands.Tie as tie

@@ -11,12 +11,12 @@ use borrow.Author.Needs.{needs}
 use borrow.Author.Tests.{not-true, not-false}
 use Rattle.letters.proofs.Cases.{le-or-lt}
 use Rattle.records.specs.Records.{blockSize}
-use Rattle.records.specs.Places.{recordStands, standsIn, recordStart, recordSize, recordAt, offsetAt}
+use Rattle.records.specs.Steps.Places.{recordStands, standsIn, recordStart, recordSize, recordAt, offsetAt}
 use Rattle.layout.specs.Steps.Reading.{Skips, FullBlocks}
 use Rattle.records.proofs.Places.{stands-placed}
 use Rattle.layout.proofs.SteppedOver.{full-stand}
 use Rattle.layout.specs.Layout.{sizeIn, totalIn}
-use Rattle.layout.specs.Stands.{stands}
+use Rattle.layout.specs.Steps.Stands.{stands}
 use Rattle.heads.specs.declared.Head.{Head}
 use Rattle.heads.specs.Kind1.{kind1In, kind1Total, kind1Tests}
 use Rattle.heads.specs.Heads.{heads}

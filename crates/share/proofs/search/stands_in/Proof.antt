@@ -1,6 +1,6 @@
 -- `search::stands_in` meets its contract: record 0 is the head, and the others count from 1.
 use mathlib.Core.Path.{sym, _∙_}
-use Rattle.records.specs.Places.{standsIn}
+use Rattle.records.specs.Steps.Places.{standsIn}
 use Rattle.records.proofs.Places.{stands-past-head}
 use borrow.Author.Needs.{needs}
 use Rattle.share.proofs.search.stands_in.Statement.{statement}

@@ -3,7 +3,7 @@ use mathlib.Core.Bool.{Bool}
 use mathlib.Core.List.{List}
 use Prim.Native.Nat.{ℕ}
 use lib.ListN.{getD}
-use Rattle.records.specs.Places.{standsIn, recordAt, offsetAt}
+use Rattle.records.specs.Steps.Places.{standsIn, recordAt, offsetAt}
 use Rattle.layout.specs.Layout.{Layout, sizeIn, totalIn}
 
 -- the byte at index p can stand there, after those before it
