@@ -21,7 +21,6 @@ use Rattle.layout.proofs.Completing.{whole-share}
 use Rattle.layout.proofs.Judgments.{is-beginning, offends-if, offends-neither, share-size, share-total, letter-byte}
 use Rattle.heads.specs.declared.Head.{Head}
 use Rattle.share.specs.declared.Judgment.{Judgment}
-use Rattle.heads.specs.Kind1.{kind1Size, kind1In, kind1Total}
 use Rattle.heads.specs.Heads.{heads}
 use Rattle.share.specs.Calls.{judgmentNumber, headOf, noHead, Judges, Reads}
 use Rattle.share.specs.Steps.Reading.{Stops, judgmentAt}
@@ -29,17 +28,17 @@ use Rattle.heads.proofs.Kind1Laws.{lawful}
 
 -- the judgment where the loops stop
 module _ (xs : List ℕ) (bytes : Bytes xs) (q : ℕ) (s : Stops xs q) where
-  judgment-right : (r : Judgment) → r ≡ judgmentAt (sizeIn heads xs) (kind1In xs) (totalIn heads xs) q (length xs) → Judges xs (judgmentNumber r) (headOf r)
+  judgment-right : (r : Judgment) → r ≡ judgmentAt (sizeIn heads xs) (heads .headIn xs) (totalIn heads xs) q (length xs) → Judges xs (judgmentNumber r) (headOf r)
   judgment-right r e =
       ⊎-elim
       (λ all.
       let a : Accepted heads xs = λ p h. s .before p (omega arith) in
       ⊎-elim
       (λ whole.
-      let c : r ≡ Judgment.Complete (kind1In xs) =
+      let c : r ≡ Judgment.Complete (heads .headIn xs) =
       e ∙ simp (le-ltb q (length xs) all, eq-eqb (length xs) (sizeFor (sizeIn heads xs) (totalIn heads xs)) whole)
       in
-      rw c (Judges.complete (kind1In xs) (ownLetters heads xs) (whole-share heads lawful xs bytes a whole)))
+      rw c (Judges.complete (heads .headIn xs) (ownLetters heads xs) (whole-share heads lawful xs bytes a whole)))
       (λ more.
       let c : r ≡ Judgment.Refused Refusal.Unfinished =
       e ∙ simp (le-ltb q (length xs) all, ne-eqb (length xs) (sizeFor (sizeIn heads xs) (totalIn heads xs)) more)
@@ -55,15 +54,15 @@ module _ (xs : List ℕ) (bytes : Bytes xs) (q : ℕ) (s : Stops xs q) where
 
   -- as the code finds it: by a head and a T that it has read
   pub judges :
-      (front : ℕ) (h : Head) (T count : ℕ) (r : Judgment) → front ≡ sizeIn heads xs → h ≡ kind1In xs → T ≡ kind1Total h → count ≡ length xs
+      (front : ℕ) (h : Head) (T count : ℕ) (r : Judgment) → front ≡ sizeIn heads xs → h ≡ heads .headIn xs → T ≡ heads .total h → count ≡ length xs
       → r ≡ judgmentAt front h T q count
       → Judges xs (judgmentNumber r) (headOf r)
   judges front h T count r ef eh et ec e =
       judgment-right r
       (e
       ∙ ap (λ f. judgmentAt f h T q count) ef
-      ∙ ap₂ (λ h T. judgmentAt (sizeIn heads xs) h T q count) eh (et ∙ ap kind1Total eh)
-      ∙ ap (judgmentAt (sizeIn heads xs) (kind1In xs) (totalIn heads xs) q) ec)
+      ∙ ap₂ (λ h T. judgmentAt (sizeIn heads xs) h T q count) eh (et ∙ ap (heads .total) eh)
+      ∙ ap (judgmentAt (sizeIn heads xs) (heads .headIn xs) (totalIn heads xs) q) ec)
 
 -- bytes that are judged complete are a share of that head
 complete-share : {xs : List ℕ} {n : ℕ} {h : Head} → Judges xs n h → n ≡ 0 → IsShareOf heads h xs
@@ -88,15 +87,15 @@ found-refused xs before r q j e =
 
 -- reading a share into a buffer of some length
 module _ (h : Head) (xs before : List ℕ) (s : IsShareOf heads h xs) where
-  pub no-room : (length before ≡ kind1Total h → ⊥) → Reads xs before 6 noHead before
+  pub no-room : (length before ≡ heads .total h → ⊥) → Reads xs before 6 noHead before
   no-room n = Reads.misfit h (s .0) (s .1) (λ e. n (e ∙ s .1 .count))
 
-  pub room : length before ≡ kind1Total h → sizeFor kind1Size (length before) ≤ length xs
+  pub room : length before ≡ heads .total h → sizeFor (sizeIn heads xs) (length before) ≤ length xs
   room e =
       omega
-      (arith, share-size heads lawful xs (h, s .0, s .1), ap (sizeFor kind1Size) (e ∙ sym (s .1 .count) ∙ sym (share-total heads lawful h (s .0) xs (s .1))))
+      (arith, share-size heads lawful xs (h, s .0, s .1), ap (sizeFor (sizeIn heads xs)) (e ∙ sym (s .1 .count) ∙ sym (share-total heads lawful h (s .0) xs (s .1))))
 
-  pub copied-read : (after : List ℕ) → length before ≡ kind1Total h → Copied kind1Size xs (length before) after → Reads xs before 0 h after
+  pub copied-read : (after : List ℕ) → length before ≡ heads .total h → Copied (sizeIn heads xs) xs (length before) after → Reads xs before 0 h after
   copied-read after e c =
       rw same (Reads.complete h (s .0) (s .1) (e ∙ sym (s .1 .count)))
     where

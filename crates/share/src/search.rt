@@ -10,7 +10,7 @@ ghost use Prim.Native.Nat.{_<_};
 ghost use Rattle.records.specs.Records.{blockSize, totalLimit};
 ghost use Rattle.records.specs.Steps.Places.{standsIn};
 ghost use Rattle.layout.specs.Layout.{sizeIn};
-ghost use Rattle.heads.specs.Kind1.{kind1In, kind1Total, kind1Tests};
+ghost use Rattle.heads.specs.Kind1.{kind1Tests};
 ghost use Rattle.heads.specs.Heads.{heads};
 ghost use Rattle.share.specs.Steps.Reading.{Stops};
 
@@ -28,7 +28,7 @@ fn stands_in(head: Head, letters: usize, nth: usize, offset: usize, byte: u8) ->
 // The index of the first byte that can't stand there, or the number of bytes: record by record, byte by byte, after a head
 // of `front` bytes. Whole full blocks are stepped over.
 pub fn first_wrong(share: &[u8], front: usize, head: Head, letters: usize) -> usize
-    requires { ⌜ (front ≡ sizeIn heads (now share)) × (head ≡ kind1In (now share)) × (letters ≡ kind1Total head) ⌝ }
+    requires { ⌜ (front ≡ sizeIn heads (now share)) × (head ≡ heads .headIn (now share)) × (letters ≡ heads .total head) ⌝ }
     ensures { λ r. ⌜ Stops (now (share .entry)) r ⌝ }
 {
     let mut at = 0;

@@ -18,7 +18,7 @@ use Rattle.layout.proofs.SteppedOver.{full-stand}
 use Rattle.layout.specs.Layout.{sizeIn, totalIn}
 use Rattle.layout.specs.Steps.Stands.{stands}
 use Rattle.heads.specs.declared.Head.{Head}
-use Rattle.heads.specs.Kind1.{kind1In, kind1Total, kind1Tests}
+use Rattle.heads.specs.Kind1.{kind1Tests}
 use Rattle.heads.specs.Heads.{heads}
 use Rattle.heads.proofs.Kind1Laws.{one-kind, total-small}
 use Rattle.share.proofs.Walk.{Fits, Between, Inside, size-at-most, outset, enter, stride, at-block, pass, offset-small}
@@ -35,22 +35,22 @@ front-fits front xs e = record { filled = omega arith; small = omega arith }
 -- the test of a byte's place is that of its index, since no test but the first looks at the kind
 by-place :
     (xs : List ℕ) (T nth j p : ℕ) → T ≡ totalIn heads xs → j < recordSize (sizeIn heads xs) nth → p ≡ recordStart (sizeIn heads xs) nth + j
-    → stands heads xs p ≡ standsIn (kind1Tests (kind1In xs) (getD xs p 0)) T nth j (getD xs p 0)
+    → stands heads xs p ≡ standsIn (kind1Tests (heads .headIn xs) (getD xs p 0)) T nth j (getD xs p 0)
 unfolding stands standsIn
 by-place xs T zero j p e h at =
     let here : p ≡ j = omega arith in
     stands-placed (sizeIn heads xs) (heads .headTests xs) (totalIn heads xs) 0 j p (getD xs p 0) h at
-    ∙ sym (ap (λ i. getD (kind1Tests (kind1In xs) (getD xs i 0)) j true) here ∙ one-kind (kind1In xs) xs j)
+    ∙ sym (ap (λ i. getD (kind1Tests (heads .headIn xs) (getD xs i 0)) j true) here ∙ one-kind (heads .headIn xs) xs j)
 by-place xs T (suc r) j p e h at =
     stands-placed (sizeIn heads xs) (heads .headTests xs) (totalIn heads xs) (suc r) j p (getD xs p 0) h at
     ∙ ap (λ t. recordStands t r j (getD xs p 0)) (sym e)
 
-module _ (xs : List ℕ) (H : ℕ) (h : Head) (T : ℕ) (ef : H ≡ sizeIn heads xs) (eh : h ≡ kind1In xs) (et : T ≡ kind1Total h)
+module _ (xs : List ℕ) (H : ℕ) (h : Head) (T : ℕ) (ef : H ≡ sizeIn heads xs) (eh : h ≡ heads .headIn xs) (et : T ≡ heads .total h)
     (nth start end at : ℕ) (w : Inside H (length xs) nth start end at) where
   -- a byte of the record is tested by its offset
   tested : (p : ℕ) → start ≤ p → p < end → stands heads xs p ≡ standsIn (kind1Tests h (getD xs p 0)) T nth (p - start) (getD xs p 0)
   tested p lo hi =
-      by-place xs T nth (p - start) p (et ∙ ap kind1Total eh) (omega (arith, w, ap (λ f. recordSize f nth) ef)) (omega (arith, w, ap (λ f. recordStart f nth) ef))
+      by-place xs T nth (p - start) p (et ∙ ap (heads .total) eh) (omega (arith, w, ap (λ f. recordSize f nth) ef)) (omega (arith, w, ap (λ f. recordStart f nth) ef))
       ∙ ap (λ h. standsIn (kind1Tests h (getD xs p 0)) T nth (p - start) (getD xs p 0)) (sym eh)
 
   -- past a byte that stands and what is stepped over after it
@@ -73,7 +73,7 @@ module _ (xs : List ℕ) (H : ℕ) (h : Head) (T : ℕ) (ef : H ≡ sizeIn heads
       (λ later.
       let some : nth < e = omega arith in
       let here = at-block H (length xs) nth start end at w done e some (full .there some) in
-      ap₂ (λ f t. standsIn (heads .headTests xs) t (recordAt f p) (offsetAt f p) (getD xs p 0)) (sym ef) (sym (et ∙ ap kind1Total eh))
+      ap₂ (λ f t. standsIn (heads .headTests xs) t (recordAt f p) (offsetAt f p) (getD xs p 0)) (sym ef) (sym (et ∙ ap (heads .total) eh))
       ∙ full-stand H xs T (heads .headTests xs) nth e p full (omega arith) (omega arith))
       (so-far p) (le-or-lt at p)
 
