@@ -9,7 +9,7 @@ use native.Mathlib.Omega.{arith}
 use lib.ListN.{length, getD, take, drop, length-append, length-drop, take-append-drop}
 use lib.Seq.{ext-getD, getD-take, length-take-le}
 use Rattle.letters.proofs.Cases.{le-or-lt, eq-or-ne}
-use Rattle.records.specs.Records.{blockLetters, blockSize, sizeFor}
+use Rattle.records.specs.Records.{blockLetters, sizeFor}
 use Rattle.records.specs.Steps.Places.{letterIn}
 use Rattle.layout.specs.Layout.{Layout, sizeIn, totalIn}
 use Rattle.layout.specs.Share.{ShareOf, Bytes}

@@ -99,16 +99,16 @@ last-letter (x ∷ rest) j lo hj =
     (λ within. append-at-left (x ∷ rest) (replicate (blockLetters - length (x ∷ rest)) 0) j within) (le-or-lt (length (x ∷ rest)) j)
 
 -- the letters that the full blocks leave
-abbrev rest : List ℕ → List ℕ
-rest letters = drop (length letters / blockLetters * blockLetters) letters
+abbrev leftOver : List ℕ → List ℕ
+leftOver letters = drop (length letters / blockLetters * blockLetters) letters
 
-rest-length : (letters : List ℕ) → length (rest letters) ≡ length letters % blockLetters
+rest-length : (letters : List ℕ) → length (leftOver letters) ≡ length letters % blockLetters
 rest-length letters = simp length-drop (omega arith)
 
 -- where a block's letters divide T there is no last block
-no-last : (letters : List ℕ) → length letters % blockLetters ≡ 0 → lastBlock (rest letters) ≡ []
+no-last : (letters : List ℕ) → length letters % blockLetters ≡ 0 → lastBlock (leftOver letters) ≡ []
 unfolding lastBlock
-no-last letters e = none (rest letters) (rest-length letters ∙ e)
+no-last letters e = none (leftOver letters) (rest-length letters ∙ e)
   where
     none : (xs : List ℕ) → length xs ≡ 0 → lastBlock xs ≡ []
     none [] e = refl
@@ -117,14 +117,14 @@ no-last letters e = none (rest letters) (rest-length letters ∙ e)
 blocks-length : (letters : List ℕ) → length (blockRecords letters) ≡ blocks (length letters) * blockSize
 unfolding blockRecords
 blocks-length letters =
-    length-append (fullBlocks (length letters / blockLetters) letters) (lastBlock (rest letters))
+    length-append (fullBlocks (length letters / blockLetters) letters) (lastBlock (leftOver letters))
     ∙ ⊎-elim
     (λ divides.
     let e : length letters % blockLetters ≡ 0 = omega arith in
-    let none : length (lastBlock (rest letters)) ≡ 0 = ap length (no-last letters e) in
+    let none : length (lastBlock (leftOver letters)) ≡ 0 = ap length (no-last letters e) in
     omega (arith, full))
     (λ left.
-    let one : length (lastBlock (rest letters)) ≡ blockSize = last-length (rest letters) (omega (arith, rest-length letters)) (omega (arith, rest-length letters)) in
+    let one : length (lastBlock (leftOver letters)) ≡ blockSize = last-length (leftOver letters) (omega (arith, rest-length letters)) (omega (arith, rest-length letters)) in
     omega (arith, full))
     (le-or-lt (length letters % blockLetters) 0)
   where
@@ -140,11 +140,11 @@ module _ (letters : List ℕ) (r : ℕ) where
       ∙ simp (le-leb ((r + 1) * blockLetters) (length letters) (omega arith))
   in-full (suc j) hj h = full-letter (length letters / blockLetters) letters r j (omega arith) h (omega arith)
 
-  in-last : (j : ℕ) → j < blockSize → r ≡ length letters / blockLetters → 1 ≤ length letters % blockLetters → getD (lastBlock (rest letters)) j 0 ≡ blockByte letters r j
+  in-last : (j : ℕ) → j < blockSize → r ≡ length letters / blockLetters → 1 ≤ length letters % blockLetters → getD (lastBlock (leftOver letters)) j 0 ≡ blockByte letters r j
   in-last zero hj e lo =
-      last-kind (rest letters) (omega (arith, rest-length letters)) ∙ simp (lt-leb ((r + 1) * blockLetters) (length letters) (omega arith))
+      last-kind (leftOver letters) (omega (arith, rest-length letters)) ∙ simp (lt-leb ((r + 1) * blockLetters) (length letters) (omega arith))
   in-last (suc j) hj e lo =
-      last-letter (rest letters) j (omega (arith, rest-length letters)) (omega arith)
+      last-letter (leftOver letters) j (omega (arith, rest-length letters)) (omega arith)
       ∙ getD-drop (length letters / blockLetters * blockLetters) letters j 0
       ∙ ap (λ i. getD letters (i * blockLetters + j) 0) (sym e)
 
@@ -153,12 +153,12 @@ module _ (letters : List ℕ) (r : ℕ) where
   in-block j hj hr =
       ⊎-elim
       (λ past.
-      append-at-right (fullBlocks (length letters / blockLetters) letters) (lastBlock (rest letters)) (r * blockSize + j) (length letters / blockLetters * blockSize)
+      append-at-right (fullBlocks (length letters / blockLetters) letters) (lastBlock (leftOver letters)) (r * blockSize + j) (length letters / blockLetters * blockSize)
       (full-length (length letters / blockLetters) letters (omega arith)) (omega arith)
-      ∙ ap (λ i. getD (lastBlock (rest letters)) i 0) (offset past)
+      ∙ ap (λ i. getD (lastBlock (leftOver letters)) i 0) (offset past)
       ∙ in-last j hj (omega arith) (omega arith))
       (λ within.
-      append-at-left (fullBlocks (length letters / blockLetters) letters) (lastBlock (rest letters)) (r * blockSize + j)
+      append-at-left (fullBlocks (length letters / blockLetters) letters) (lastBlock (leftOver letters)) (r * blockSize + j)
       (omega (arith, full-length (length letters / blockLetters) letters (omega arith)))
       ∙ in-full j hj within)
       (le-or-lt (length letters / blockLetters) r)

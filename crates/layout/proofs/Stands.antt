@@ -17,7 +17,7 @@ use Rattle.layout.specs.Layout.{Layout, sizeIn, totalIn}
 use Rattle.layout.specs.Share.{shareOf}
 use Rattle.layout.specs.Steps.Stands.{stands}
 use Rattle.layout.specs.Laws.{Lawful}
-use Rattle.layout.proofs.LaidOut.{share-length, in-head, in-blocks, in-end}
+use Rattle.layout.proofs.LaidOut.{in-head, in-blocks, in-end}
 
 -- a place is in the head, of H bytes, in a block, or past the blocks
 pub data Place (H letters p : ℕ) : Type 0 where

@@ -1,7 +1,7 @@
 -- `search::first_wrong` meets its contract: every byte passed stands, looked at or stepped over, and the byte at which the loops are
 -- left by their label doesn't, since the offset in its record tells its test.
-use mathlib.Core.Path.{_≡_, refl, sym, ap, ap₂, _∙_}
-use mathlib.Core.Bool.{Bool, true}
+use mathlib.Core.Path.{_≡_, sym, ap, ap₂, _∙_}
+use mathlib.Core.Bool.{true}
 use mathlib.Core.List.{List}
 use mathlib.Core.Logic.{⊎-elim}
 use Prim.Native.Nat.{ℕ, zero, suc, _+_, _-_, _*_, _≤_, _<_}
@@ -21,7 +21,7 @@ use Rattle.heads.specs.declared.Head.{Head}
 use Rattle.heads.specs.Kind1.{kind1Tests}
 use Rattle.heads.specs.Heads.{heads}
 use Rattle.heads.proofs.Kind1Laws.{one-kind, total-small}
-use Rattle.share.proofs.Walk.{Fits, Between, Inside, size-at-most, outset, enter, stride, at-block, pass, offset-small}
+use Rattle.share.proofs.Walk.{FrontFits, BetweenRecords, InRecord, size-at-most, outset, enter, stride, at-block, pass, offset-small}
 use Rattle.share.proofs.search.first_wrong.Statement.{statement}
 use Rattle.share.proofs.search.first_wrong.Tie as tie
 
@@ -29,7 +29,7 @@ use Rattle.share.proofs.search.first_wrong.Tie as tie
 abbrev SoFar : List ℕ → ℕ → Type 0
 SoFar xs at = (p : ℕ) → p < at → stands heads xs p ≡ true
 
-front-fits : (front : ℕ) (xs : List ℕ) → front ≡ sizeIn heads xs → Fits front
+front-fits : (front : ℕ) (xs : List ℕ) → front ≡ sizeIn heads xs → FrontFits front
 front-fits front xs e = record { filled = omega arith; small = omega arith }
 
 -- the test of a byte's place is that of its index, since no test but the first looks at the kind
@@ -46,7 +46,7 @@ by-place xs T (suc r) j p e h at =
     ∙ ap (λ t. recordStands t r j (getD xs p 0)) (sym e)
 
 module _ (xs : List ℕ) (H : ℕ) (h : Head) (T : ℕ) (ef : H ≡ sizeIn heads xs) (eh : h ≡ heads .headIn xs) (et : T ≡ heads .total h)
-    (nth start end at : ℕ) (w : Inside H (length xs) nth start end at) where
+    (nth start end at : ℕ) (w : InRecord H (length xs) nth start end at) where
   -- a byte of the record is tested by its offset
   tested : (p : ℕ) → start ≤ p → p < end → stands heads xs p ≡ standsIn (kind1Tests h (getD xs p 0)) T nth (p - start) (getD xs p 0)
   tested p lo hi =
@@ -78,13 +78,13 @@ module _ (xs : List ℕ) (H : ℕ) (h : Head) (T : ℕ) (ef : H ≡ sizeIn heads
       (so-far p) (le-or-lt at p)
 
 abbrev Inv-loop : tie.InvT-loop
-Inv-loop share front head letters at₀ nth start end at = Inside front (length share) nth start end at × SoFar share at
+Inv-loop share front head letters at₀ nth start end at = InRecord front (length share) nth start end at × SoFar share at
 
 abbrev μ-loop : tie.MeasureT-loop
 μ-loop share front head letters at₀ nth start end at = end - at
 
 abbrev Inv-records : tie.InvT-records
-Inv-records share front head letters at₀ nth₀ at nth = Between front (length share) at nth × SoFar share at
+Inv-records share front head letters at₀ nth₀ at nth = BetweenRecords front (length share) at nth × SoFar share at
 
 abbrev μ-records : tie.MeasureT-records
 μ-records share front head letters at₀ nth₀ at nth = length share - at
