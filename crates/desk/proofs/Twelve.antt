@@ -1,21 +1,25 @@
 -- The night-desk examples P1 to P12 hold: the checker computes the packets, the pieces, the counts and the share; what is less than the share
 -- or more is judged by the laws of shares.
-use mathlib.Core.Path.{refl}
+use mathlib.Core.Path.{refl, sym}
 use mathlib.Core.List.{List, [], _∷_, _++_}
 use Prim.Native.Nat.{ℕ, zero, suc, _<_}
 use native.Mathlib.Omega.{arith}
 use lib.ListN.{getD, take}
 use Rattle.shifts.specs.Rule.{t}
+use Rattle.group.specs.Ranges.{NodeOf}
 use Rattle.group.specs.Lengths.{nodeLetters}
 use Rattle.sequences.specs.Lists.{joined}
 use Rattle.matrix.specs.Matrix.{packets}
 use Rattle.matrix.specs.Pieces.{reading}
 use Rattle.matrix.specs.Counts.{recoveryCost}
 use Rattle.matrix.specs.Repair.{helping, equations}
-use Rattle.share.specs.Share.{shareOf, blockRecords, fullBlocks, lastBlock, ShareOf}
-use Rattle.share.specs.Judgment.{IsShare}
+use Rattle.records.specs.Records.{blockRecords, fullBlocks, lastBlock}
+use Rattle.layout.specs.Share.{shareOf, ShareOf}
+use Rattle.layout.specs.Judgment.{IsShare}
+use Rattle.layout.proofs.Judgments.{cut-is-beginning, share-then-more, nothing-begins}
+use Rattle.heads.specs.Heads.{heads}
 use Rattle.share.specs.Calls.{noHead, headFor, Judges}
-use Rattle.share.proofs.Judgments.{cut-is-beginning, share-then-more, nothing-begins}
+use Rattle.heads.proofs.Kind1Laws.{lawful, total-of}
 use Rattle.desk.specs.Examples.{AllHold, one, stored, twelve}
 
 -- P9's letters, which are bytes
@@ -27,33 +31,35 @@ below zero h = omega arith
 below (suc zero) h = omega arith
 below (suc (suc i)) h = absurd (omega arith)
 
+in-range : NodeOf one 1
+in-range =
+    record {
+      group =
+          record {
+            n-low = omega arith;
+            n-high = omega arith;
+            k-low = omega arith;
+            k-high = omega arith;
+            d-high = omega arith;
+            l-low = omega arith;
+            l-high = omega arith;
+          };
+      low = omega arith;
+      high = omega arith;
+    }
+
 -- its bytes are their share
-is-share : ShareOf (headFor one 1 7) letters stored
+is-share : ShareOf heads (headFor one 1 7) letters stored
 unfolding shareOf blockRecords fullBlocks lastBlock nodeLetters t
 is-share =
     record {
-      node =
-          record {
-            group =
-                record {
-                  n-low = omega arith;
-                  n-high = omega arith;
-                  k-low = omega arith;
-                  k-high = omega arith;
-                  d-high = omega arith;
-                  l-low = omega arith;
-                  l-high = omega arith;
-                };
-            low = omega arith;
-            high = omega arith;
-          };
-      batch = omega arith;
-      count = refl;
+      allowed = record { node = in-range; batch = omega arith };
+      count = sym (total-of (headFor one 1 7) in-range);
       bytes = record { below = below };
       is = refl;
     }
 
-some-share : IsShare stored
+some-share : IsShare heads stored
 some-share = (headFor one 1 7, letters, is-share)
 
 -- P9 to P12, judged
@@ -61,13 +67,13 @@ judged : Judges stored 0 (headFor one 1 7)
 judged = Judges.complete (headFor one 1 7) letters is-share
 
 cut : (any : ℕ) → any < 256 → Judges (take 80 stored) 7 noHead
-cut any h = Judges.unfinished (cut-is-beginning stored 80 some-share (omega arith))
+cut any h = Judges.unfinished (cut-is-beginning heads lawful stored 80 some-share (omega arith))
 
 longer : (any : ℕ) → any < 256 → Judges (stored ++ (any ∷ [])) 8 noHead
-longer any h = Judges.malformed (share-then-more stored (any ∷ []) some-share (omega arith))
+longer any h = Judges.malformed (share-then-more heads lawful stored (any ∷ []) some-share (omega arith))
 
 nothing : (any : ℕ) → any < 256 → Judges [] 7 noHead
-nothing any h = Judges.unfinished nothing-begins
+nothing any h = Judges.unfinished (nothing-begins heads lawful)
 
 -- P1 to P12
 pub twelve-hold : AllHold twelve

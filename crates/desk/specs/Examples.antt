@@ -10,7 +10,8 @@ use Rattle.matrix.specs.Matrix.{packets}
 use Rattle.matrix.specs.Pieces.{reading}
 use Rattle.matrix.specs.Counts.{recoveryCost}
 use Rattle.matrix.specs.Repair.{helping, equations}
-use Rattle.share.specs.Share.{shareOf}
+use Rattle.layout.specs.Share.{shareOf}
+use Rattle.heads.specs.Heads.{heads}
 use Rattle.share.specs.Calls.{noHead, headFor, Judges}
 
 pub data Example : Type 0 where
@@ -37,7 +38,7 @@ Holds (Example.recovery g file ids buffer count) = (reading xors g file ids ≡ 
 Holds (Example.repair g file lost helpers sent) =
     (pieces g file lost helpers ≡ sent) × (equations xors g lost helpers (packets xors g file lost) ≡ sent)
 Holds (Example.share g file node batch bytes size) =
-    (shareOf (headFor g node batch) (packets xors g file node) ≡ bytes) × (length bytes ≡ size)
+    (shareOf heads (headFor g node batch) (packets xors g file node) ≡ bytes) × (length bytes ≡ size)
     × Judges bytes 0 (headFor g node batch)
 Holds (Example.judgment bytes number) = (any : ℕ) → any < 256 → Judges (bytes any) number noHead
 

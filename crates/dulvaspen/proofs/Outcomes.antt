@@ -8,7 +8,9 @@ use Rattle.group.specs.Answers.{ifFine}
 use Rattle.matrix.specs.Counts.{recoveryCount, repairCount}
 use Rattle.rebuilding.specs.Calls.{recoverRefusal, repairRefusal}
 use Rattle.rebuilding.proofs.Outcomes.{one-recovered, one-repaired}
-use Rattle.share.proofs.Judgments.{not-share-and-beginning, one-head, one-letters}
+use Rattle.layout.proofs.Judgments.{not-share-and-beginning, one-head, one-letters}
+use Rattle.heads.specs.Heads.{heads}
+use Rattle.heads.proofs.Kind1Laws.{lawful}
 use Rattle.dulvaspen.specs.Exports.{Tells, Fills, Recovers, Repairs}
 use Rattle.dulvaspen.specs.Shares.{six, JudgesShare, ReadsShare}
 
@@ -44,20 +46,20 @@ repairs-once g lost helpers before after after′ count told told′ r r′ c c�
 module _ {bytes head : List ℕ} where
   pub judges-share-once :
       {r r′ : ℕ} {after after′ : List ℕ} → JudgesShare bytes head r after → JudgesShare bytes head r′ after′ → (r ≡ r′) × (after ≡ after′)
-  judges-share-once (JudgesShare.complete h l s e) (JudgesShare.complete h′ l′ s′ e′) = (refl, ap six (one-head h h′ l l′ bytes s s′))
-  judges-share-once (JudgesShare.complete h l s e) (JudgesShare.unfinished b) = absurd (not-share-and-beginning bytes (h, l, s) b)
+  judges-share-once (JudgesShare.complete h l s e) (JudgesShare.complete h′ l′ s′ e′) = (refl, ap six (one-head heads lawful h h′ l l′ bytes s s′))
+  judges-share-once (JudgesShare.complete h l s e) (JudgesShare.unfinished b) = absurd (not-share-and-beginning heads lawful bytes (h, l, s) b)
   judges-share-once (JudgesShare.complete h l s e) (JudgesShare.malformed m) = absurd (m .0 (h, l, s))
   judges-share-once (JudgesShare.complete h l s e) (JudgesShare.misfit h′ l′ s′ n) = absurd (n e)
-  judges-share-once (JudgesShare.unfinished b) (JudgesShare.complete h l s e) = absurd (not-share-and-beginning bytes (h, l, s) b)
+  judges-share-once (JudgesShare.unfinished b) (JudgesShare.complete h l s e) = absurd (not-share-and-beginning heads lawful bytes (h, l, s) b)
   judges-share-once (JudgesShare.unfinished b) (JudgesShare.unfinished b′) = (refl, refl)
   judges-share-once (JudgesShare.unfinished b) (JudgesShare.malformed m) = absurd (m .1 b)
-  judges-share-once (JudgesShare.unfinished b) (JudgesShare.misfit h l s n) = absurd (not-share-and-beginning bytes (h, l, s) b)
+  judges-share-once (JudgesShare.unfinished b) (JudgesShare.misfit h l s n) = absurd (not-share-and-beginning heads lawful bytes (h, l, s) b)
   judges-share-once (JudgesShare.malformed m) (JudgesShare.complete h l s e) = absurd (m .0 (h, l, s))
   judges-share-once (JudgesShare.malformed m) (JudgesShare.unfinished b) = absurd (m .1 b)
   judges-share-once (JudgesShare.malformed m) (JudgesShare.malformed m′) = (refl, refl)
   judges-share-once (JudgesShare.malformed m) (JudgesShare.misfit h l s n) = absurd (m .0 (h, l, s))
   judges-share-once (JudgesShare.misfit h l s n) (JudgesShare.complete h′ l′ s′ e) = absurd (n e)
-  judges-share-once (JudgesShare.misfit h l s n) (JudgesShare.unfinished b) = absurd (not-share-and-beginning bytes (h, l, s) b)
+  judges-share-once (JudgesShare.misfit h l s n) (JudgesShare.unfinished b) = absurd (not-share-and-beginning heads lawful bytes (h, l, s) b)
   judges-share-once (JudgesShare.misfit h l s n) (JudgesShare.malformed m) = absurd (m .0 (h, l, s))
   judges-share-once (JudgesShare.misfit h l s n) (JudgesShare.misfit h′ l′ s′ n′) = (refl, refl)
 
@@ -66,19 +68,19 @@ module _ {bytes packets head : List ℕ} where
       {r r′ : ℕ} {held held′ after after′ : List ℕ} → ReadsShare bytes packets head r held after → ReadsShare bytes packets head r′ held′ after′
       → (r ≡ r′) × (held ≡ held′) × (after ≡ after′)
   reads-share-once (ReadsShare.complete h l s e f) (ReadsShare.complete h′ l′ s′ e′ f′) =
-      (refl, one-letters h h′ l l′ bytes s s′, ap six (one-head h h′ l l′ bytes s s′))
-  reads-share-once (ReadsShare.complete h l s e f) (ReadsShare.unfinished b) = absurd (not-share-and-beginning bytes (h, l, s) b)
+      (refl, one-letters heads lawful h h′ l l′ bytes s s′, ap six (one-head heads lawful h h′ l l′ bytes s s′))
+  reads-share-once (ReadsShare.complete h l s e f) (ReadsShare.unfinished b) = absurd (not-share-and-beginning heads lawful bytes (h, l, s) b)
   reads-share-once (ReadsShare.complete h l s e f) (ReadsShare.malformed m) = absurd (m .0 (h, l, s))
-  reads-share-once (ReadsShare.complete h l s e f) (ReadsShare.misfit h′ l′ s′ n) = absurd (n (e ∙ ap length (one-letters h h′ l l′ bytes s s′)) f)
-  reads-share-once (ReadsShare.unfinished b) (ReadsShare.complete h l s e f) = absurd (not-share-and-beginning bytes (h, l, s) b)
+  reads-share-once (ReadsShare.complete h l s e f) (ReadsShare.misfit h′ l′ s′ n) = absurd (n (e ∙ ap length (one-letters heads lawful h h′ l l′ bytes s s′)) f)
+  reads-share-once (ReadsShare.unfinished b) (ReadsShare.complete h l s e f) = absurd (not-share-and-beginning heads lawful bytes (h, l, s) b)
   reads-share-once (ReadsShare.unfinished b) (ReadsShare.unfinished b′) = (refl, refl, refl)
   reads-share-once (ReadsShare.unfinished b) (ReadsShare.malformed m) = absurd (m .1 b)
-  reads-share-once (ReadsShare.unfinished b) (ReadsShare.misfit h l s n) = absurd (not-share-and-beginning bytes (h, l, s) b)
+  reads-share-once (ReadsShare.unfinished b) (ReadsShare.misfit h l s n) = absurd (not-share-and-beginning heads lawful bytes (h, l, s) b)
   reads-share-once (ReadsShare.malformed m) (ReadsShare.complete h l s e f) = absurd (m .0 (h, l, s))
   reads-share-once (ReadsShare.malformed m) (ReadsShare.unfinished b) = absurd (m .1 b)
   reads-share-once (ReadsShare.malformed m) (ReadsShare.malformed m′) = (refl, refl, refl)
   reads-share-once (ReadsShare.malformed m) (ReadsShare.misfit h l s n) = absurd (m .0 (h, l, s))
-  reads-share-once (ReadsShare.misfit h l s n) (ReadsShare.complete h′ l′ s′ e f) = absurd (n (e ∙ ap length (one-letters h′ h l′ l bytes s′ s)) f)
-  reads-share-once (ReadsShare.misfit h l s n) (ReadsShare.unfinished b) = absurd (not-share-and-beginning bytes (h, l, s) b)
+  reads-share-once (ReadsShare.misfit h l s n) (ReadsShare.complete h′ l′ s′ e f) = absurd (n (e ∙ ap length (one-letters heads lawful h′ h l′ l bytes s′ s)) f)
+  reads-share-once (ReadsShare.misfit h l s n) (ReadsShare.unfinished b) = absurd (not-share-and-beginning heads lawful bytes (h, l, s) b)
   reads-share-once (ReadsShare.misfit h l s n) (ReadsShare.malformed m) = absurd (m .0 (h, l, s))
   reads-share-once (ReadsShare.misfit h l s n) (ReadsShare.misfit h′ l′ s′ n′) = (refl, refl, refl)

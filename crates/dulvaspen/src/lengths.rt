@@ -2,7 +2,8 @@
 use crate::answers;
 use group::Group;
 ghost use Rattle.group.specs.Ranges.{groupRefusal, nodeRefusal};
-ghost use Rattle.group.specs.Lengths.{fileLetters, nodeLetters, repairLetters, shareBytes};
+ghost use Rattle.group.specs.Lengths.{fileLetters, nodeLetters, repairLetters};
+ghost use Rattle.share.specs.Calls.{shareBytes};
 ghost use Rattle.dulvaspen.specs.Exports.{groupOf, Tells};
 
 // The letters of a file, B*L. Refusals: 1, 2.
@@ -65,5 +66,5 @@ pub extern "C" fn dulvaspen_share_bytes(
     ensures { λ r. ⌜ Tells (nodeRefusal (groupOf n k d l) node) (shareBytes (groupOf n k d l) node) (now (bytes .entry)) (now (bytes .exit)) r ⌝ }
 {
     let g = Group { n, k, d, l };
-    answers::tell(group::share_bytes(g, node), bytes)
+    answers::tell(share::share_bytes(g, node), bytes)
 }

@@ -1,11 +1,12 @@
 // Shares: written, read and judged.
 use group::Group;
-use share::Head;
+use heads::Head;
 use share::Judgment;
 ghost use mathlib.Core.Path.{_≡_};
 ghost use lib.ListN.{length};
 ghost use Rattle.share.specs.Calls.{writeRefusal, headFor};
-ghost use Rattle.share.specs.Share.{shareOf};
+ghost use Rattle.heads.specs.Heads.{heads};
+ghost use Rattle.layout.specs.Share.{shareOf};
 ghost use Rattle.dulvaspen.specs.Exports.{groupOf, Fills};
 ghost use Rattle.dulvaspen.specs.Shares.{six, JudgesShare, ReadsShare, Misfits};
 
@@ -21,7 +22,7 @@ pub extern "C" fn dulvaspen_write_share(
     packets: &[u8],
     share: &mut [u8],
 ) -> usize
-    ensures { λ r. ⌜ Fills (writeRefusal (headFor (groupOf n k d l) node batch) (length (now (packets .entry))) (length (now (share .entry)))) (shareOf (headFor (groupOf n k d l) node batch) (now (packets .entry))) (now (share .entry)) (now (share .exit)) r ⌝ }
+    ensures { λ r. ⌜ Fills (writeRefusal (headFor (groupOf n k d l) node batch) (length (now (packets .entry))) (length (now (share .entry)))) (shareOf heads (headFor (groupOf n k d l) node batch) (now (packets .entry))) (now (share .entry)) (now (share .exit)) r ⌝ }
 {
     let g = Group { n, k, d, l };
     group::answer_number(share::write(g, node, batch, packets, share))

@@ -2,7 +2,8 @@
 use mathlib.Core.Path.{_≡_, refl, sym, ap, subst, _∙_}
 use mathlib.Core.Bool.{Bool, true, false, not}
 use Prim.Native.Nat.{ℕ, zero, suc}
-use borrow.Author.Tests.{not-true, not-false}
+use lib.Dec.{eqb}
+use borrow.Author.Tests.{eqb-true, not-true, not-false}
 use native.Mathlib.Omega.{arith}
 use Rattle.letters.specs.Places.{both}
 use Rattle.group.specs.declared.Refusal.{Refusal}
@@ -106,3 +107,11 @@ if-refused (suc q) a b n = refl
 
 pub if-fine : {A : Type 0} (q : ℕ) (a b : A) → q ≡ 0 → ifFine q a b ≡ a
 if-fine q a b e = rw e
+
+-- two lengths that neither 5 nor 6 refuses are as wanted
+pub exact-lengths : (a wa b wb : ℕ) → first (unless (eqb a wa) 5) (unless (eqb b wb) 6) ≡ 0 → (a ≡ wa) × (b ≡ wb)
+exact-lengths a wa b wb e =
+    let w = first-none (unless (eqb a wa) 5) (unless (eqb b wb) 6) e in (
+      eqb-true a wa (unless-none (eqb a wa) 5 (λ q. omega arith) (w .0)),
+      eqb-true b wb (unless-none (eqb b wb) 6 (λ q. omega arith) (w .1)),
+    )

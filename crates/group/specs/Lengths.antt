@@ -34,12 +34,3 @@ repairLetters g f = g .l + t f (g .d)
 unfoldable pub repairBuffer : Group → ℕ → ℕ
 unfolding repairLetters
 repairBuffer g f = g .d * repairLetters g f
-
--- the blocks of a share of so many letters, the last one filled up with zeros: 64 letters a block
-abbrev pub blocks : ℕ → ℕ
-blocks letters = (letters + 63) / 64
-
--- the bytes of node i's share: a head of 11, blocks of 65, an end of 5
-unfoldable pub shareBytes : Group → ℕ → ℕ
-unfolding nodeLetters
-shareBytes g i = 11 + blocks (nodeLetters g i) * 65 + 5

@@ -4,7 +4,7 @@ ghost use mathlib.Core.Path.{_≡_};
 ghost use Prim.Native.Nat.{_+_, _≤_};
 ghost use Rattle.shifts.specs.Rule.{t};
 ghost use Rattle.shifts.specs.Table.{Table};
-ghost use Rattle.group.specs.Lengths.{sequences, fileLetters, packetStart, nodeLetters, repairLetters, repairBuffer, shareBytes};
+ghost use Rattle.group.specs.Lengths.{sequences, fileLetters, packetStart, nodeLetters, repairLetters, repairBuffer};
 ghost use Rattle.group.specs.Ranges.{longestPacket, InRange, NodeOf};
 
 // B, the sequences of a file.
@@ -71,12 +71,4 @@ pub fn repair_buffer(g: Group, lost: usize) -> usize
     ensures { λ r. ⌜ r ≡ repairBuffer g lost ⌝ }
 {
     g.d * repair(g, lost)
-}
-
-// The bytes of a node's share.
-pub fn share(g: Group, node: usize) -> usize
-    requires { ⌜ NodeOf g node ⌝ }
-    ensures { λ r. ⌜ r ≡ shareBytes g node ⌝ }
-{
-    11 + (self::node(g, node) + 63) / 64 * 65 + 5
 }

@@ -4,7 +4,7 @@ pub mod lengths;
 
 ghost use mathlib.Core.Path.{_≡_};
 ghost use Rattle.group.specs.Answers.{Answers, refusalNumber, numberOf};
-ghost use Rattle.group.specs.Lengths.{fileLetters, nodeLetters, repairLetters, shareBytes};
+ghost use Rattle.group.specs.Lengths.{fileLetters, nodeLetters, repairLetters};
 ghost use Rattle.group.specs.Ranges.{groupOf, groupRefusal, nodeRefusal};
 
 // A group's numbers, any numbers: n nodes, any k of which give a batch back and any d of which rebuild a lost one,
@@ -108,15 +108,5 @@ pub fn repair_letters(g: Group, lost: usize) -> Answer
     match checks::node(g, lost) {
         Check::Refused(refusal) => Answer::Refused(refusal),
         Check::Fine => Answer::Value(lengths::repair(g, lost)),
-    }
-}
-
-// The bytes of a node's share. Refusals: 1, 2, 3.
-pub fn share_bytes(g: Group, node: usize) -> Answer
-    ensures { λ r. ⌜ Answers r (nodeRefusal g node) (shareBytes g node) ⌝ }
-{
-    match checks::node(g, node) {
-        Check::Refused(refusal) => Answer::Refused(refusal),
-        Check::Fine => Answer::Value(lengths::share(g, node)),
     }
 }

@@ -1,9 +1,9 @@
 // Judges the share on standard input, and writes one line: what it is.
 use group::Answer;
 use group::Refusal;
+use heads::Head;
 use libc::STDIN_FILENO;
 use libc::STDOUT_FILENO;
-use share::Head;
 use share::Judgment;
 
 // Writes some words.

@@ -32,14 +32,6 @@ pub call-fine :
 call-fine zero w v right before after e h is = record { answer = gives zero w v refl h; holds = is }
 call-fine (suc q) w v right before after e h is = absurd (omega arith)
 
--- two lengths that are both as wanted
-pub exact-lengths : (a wa b wb : ℕ) → first (unless (eqb a wa) 5) (unless (eqb b wb) 6) ≡ 0 → (a ≡ wa) × (b ≡ wb)
-exact-lengths a wa b wb e =
-    let w = first-none (unless (eqb a wa) 5) (unless (eqb b wb) 6) e in (
-      eqb-true a wa (unless-none (eqb a wa) 5 (λ q. omega arith) (w .0)),
-      eqb-true b wb (unless-none (eqb b wb) 6 (λ q. omega arith) (w .1)),
-    )
-
 -- where the checks before refuse nothing, the refusals on lengths are what comes out
 pub lengths-after :
     (q a wa b wb A B : ℕ) → q ≡ 0 → wa ≡ A → wb ≡ B

@@ -8,31 +8,36 @@ use borrow.Author.Tests.{eq-eqb}
 use Rattle.group.specs.declared.Answer.{Answer}
 use Rattle.group.specs.Answers.{ifFine}
 use Rattle.group.specs.Ranges.{nodeRefusal}
-use Rattle.group.specs.Lengths.{nodeLetters, shareBytes}
+use Rattle.group.specs.Lengths.{nodeLetters}
 use Rattle.group.proofs.InRange.{node-of, of-node}
-use Rattle.group.proofs.Refusals.{first-none}
-use Rattle.share.specs.declared.Head.{Head}
-use Rattle.share.specs.Share.{shareOf, ShareOf, Bytes}
-use Rattle.share.specs.Places.{sizeFor}
-use Rattle.share.specs.Calls.{fitRefusal, writeRefusal, Written, Reads}
-use Rattle.share.proofs.LaidOut.{share-length}
-use Rattle.share.proofs.Written.{exact-lengths}
+use Rattle.group.proofs.Refusals.{exact-lengths, first-none}
+use Rattle.records.specs.Records.{sizeFor}
+use Rattle.letters.specs.Lanes.{Bytes}
+use Rattle.layout.specs.Share.{shareOf, ShareOf}
+use Rattle.layout.proofs.LaidOut.{share-length}
+use Rattle.heads.specs.declared.Head.{Head}
+use Rattle.heads.specs.Kind1.{kind1Size}
+use Rattle.heads.specs.Heads.{heads}
+use Rattle.share.specs.Calls.{shareBytes, fitRefusal, writeRefusal, Written, Reads}
+use Rattle.heads.proofs.Kind1Laws.{total-of}
 use Rattle.share.proofs.Outcomes.{same-reading}
 
 -- what a call that isn't refused writes is a share
 pub written :
     (h : Head) (letters before after : List ℕ) (r : Answer) → h .batch < 2 ^ 32 → Bytes letters
     → writeRefusal h (length letters) (length before) ≡ 0
-    → Written h letters before r after → ShareOf h letters after
+    → Written h letters before r after → ShareOf heads h letters after
 unfolding writeRefusal fitRefusal
 written h letters before after r batch bytes e w =
     let a = first-none (nodeRefusal (h .group) (h .node)) (fitRefusal h (length letters) (length before)) e in
+    let node = node-of (h .group) (h .node) (a .0) in
     record {
-      node = node-of (h .group) (h .node) (a .0);
-      batch = batch;
-      count = exact-lengths (nodeLetters (h .group) (h .node)) (length letters) (shareBytes (h .group) (h .node)) (length before) (a .1) .0;
+      allowed = record { node = node; batch = batch };
+      count =
+          exact-lengths (length letters) (nodeLetters (h .group) (h .node)) (length before) (shareBytes (h .group) (h .node)) (a .1) .0
+          ∙ sym (total-of h node);
       bytes = bytes;
-      is = w .held ∙ ap (λ n. ifFine n (shareOf h letters) before) e;
+      is = w .held ∙ ap (λ n. ifFine n (shareOf heads h letters) before) e;
     }
 
 -- Read after write gives back head and letters: whatever the buffer of that length held.
@@ -45,16 +50,19 @@ read-after-write h letters before xs buffer after r n found batch bytes e w l s 
     same-reading s (Reads.complete h letters (written h letters before xs r batch bytes e w) l)
 
 -- no check refuses to write a share again
-fits : (h : Head) (letters xs : List ℕ) → ShareOf h letters xs → writeRefusal h (length letters) (length xs) ≡ 0
+fits : (h : Head) (letters xs : List ℕ) → ShareOf heads h letters xs → writeRefusal h (length letters) (length xs) ≡ 0
 unfolding writeRefusal fitRefusal shareBytes
 fits h letters xs s =
-    simp (of-node (h .group) (h .node) (s .node), eq-eqb (length letters) (nodeLetters (h .group) (h .node)) (s .count), eq-eqb (length xs) (shareBytes (h .group) (h .node)) long)
+    simp (of-node (h .group) (h .node) (s .allowed .node), eq-eqb (length letters) (nodeLetters (h .group) (h .node)) count, eq-eqb (length xs) (shareBytes (h .group) (h .node)) long)
   where
+    count : length letters ≡ nodeLetters (h .group) (h .node)
+    count = s .count ∙ total-of h (s .allowed .node)
+
     long : length xs ≡ shareBytes (h .group) (h .node)
-    long = ap length (s .is) ∙ share-length h letters ∙ ap sizeFor (s .count)
+    long = ap length (s .is) ∙ share-length heads h letters ∙ ap (sizeFor kind1Size) count
 
 -- what read takes as complete is a share
-pub read-share : {xs before after : List ℕ} {n : ℕ} {h : Head} → Reads xs before n h after → n ≡ 0 → ShareOf h after xs
+pub read-share : {xs before after : List ℕ} {n : ℕ} {h : Head} → Reads xs before n h after → n ≡ 0 → ShareOf heads h after xs
 read-share (Reads.complete h letters s l) e = s
 read-share (Reads.unfinished b) e = absurd (omega arith)
 read-share (Reads.malformed m) e = absurd (omega arith)
@@ -68,6 +76,6 @@ write-after-read h xs buffer letters before after r s l w =
     let share = read-share s refl in
     let fine = fits h letters xs share in
     w .held
-    ∙ ap (λ n. ifFine (writeRefusal h (length letters) n) (shareOf h letters) before) l
-    ∙ ap (λ n. ifFine n (shareOf h letters) before) fine
+    ∙ ap (λ n. ifFine (writeRefusal h (length letters) n) (shareOf heads h letters) before) l
+    ∙ ap (λ n. ifFine n (shareOf heads h letters) before) fine
     ∙ sym (share .is)

@@ -9,11 +9,11 @@ use Rattle.group.specs.declared.Refusal.{Refusal}
 use Rattle.group.specs.declared.Answer.{Answer}
 use Rattle.group.specs.Answers.{refusalNumber, first}
 use Rattle.group.specs.Ranges.{inputRefusal, outputRefusal}
-use Rattle.group.specs.Lengths.{shareBytes}
 use Rattle.group.proofs.Refusals.{numbered, unless-none, first-none, first-fine, refuses, gives}
-use Rattle.share.specs.declared.Head.{Head}
-use Rattle.share.specs.Share.{shareOf}
-use Rattle.share.specs.Calls.{Writes}
+use Rattle.layout.specs.Share.{shareOf}
+use Rattle.heads.specs.declared.Head.{Head}
+use Rattle.heads.specs.Heads.{heads}
+use Rattle.share.specs.Calls.{Writes, shareBytes}
 
 module _ (h : Head) (letters before : List ℕ) where
   pub write-refused : (q : Refusal) (n : ℕ) → refusalNumber q ≡ n → Writes h letters before n (Answer.Refused q) before
@@ -21,7 +21,7 @@ module _ (h : Head) (letters before : List ℕ) where
   write-refused q (suc n) e = record { answered = refuses q (suc n) (shareBytes (h .group) (h .node)) e; held = refl }
 
   pub write-done :
-      (n bytes : ℕ) (after : List ℕ) → n ≡ 0 → bytes ≡ shareBytes (h .group) (h .node) → after ≡ shareOf h letters
+      (n bytes : ℕ) (after : List ℕ) → n ≡ 0 → bytes ≡ shareBytes (h .group) (h .node) → after ≡ shareOf heads h letters
       → Writes h letters before n (Answer.Value bytes) after
   write-done n bytes after e b s =
       record { answered = gives n bytes (shareBytes (h .group) (h .node)) e b; held = rw e s }
@@ -29,11 +29,3 @@ module _ (h : Head) (letters before : List ℕ) where
   -- the first of two checks is fine
   pub write-on : (a b : ℕ) (r : Answer) (after : List ℕ) → a ≡ 0 → Writes h letters before b r after → Writes h letters before (first a b) r after
   write-on a b r after e w = rw (first-fine a b e) w
-
--- lengths that neither 5 nor 6 refuses are exact
-pub exact-lengths :
-    (in-wanted in-has out-wanted out-has : ℕ) → first (inputRefusal in-wanted in-has) (outputRefusal out-wanted out-has) ≡ 0
-    → (in-has ≡ in-wanted) × (out-has ≡ out-wanted)
-exact-lengths a b c d e =
-    let w = first-none (inputRefusal a b) (outputRefusal c d) e in
-    (eqb-true b a (unless-none (eqb b a) 5 (λ q. omega arith) (w .0)), eqb-true d c (unless-none (eqb d c) 6 (λ q. omega arith) (w .1)))

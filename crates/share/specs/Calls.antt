@@ -7,16 +7,19 @@ use Rattle.group.specs.declared.Group.{Group}
 use Rattle.group.specs.declared.Answer.{Answer}
 use Rattle.group.specs.Answers.{refusalNumber, first, ifFine, Answers}
 use Rattle.group.specs.Ranges.{nodeRefusal, inputRefusal, outputRefusal}
-use Rattle.group.specs.Lengths.{nodeLetters, shareBytes}
-use Rattle.share.specs.declared.Head.{Head}
+use Rattle.group.specs.Lengths.{nodeLetters}
+use Rattle.records.specs.Records.{sizeFor}
+use Rattle.layout.specs.Share.{shareOf, ShareOf}
+use Rattle.layout.specs.Judgment.{IsBeginning, IsNeither}
+use Rattle.heads.specs.declared.Head.{Head}
 use Rattle.share.specs.declared.Judgment.{Judgment}
-use Rattle.share.specs.Share.{shareOf, ShareOf}
-use Rattle.share.specs.Judgment.{IsBeginning, IsNeither}
+use Rattle.heads.specs.Kind1.{kind1Size}
+use Rattle.heads.specs.Heads.{heads}
 
 -- a judgment's number: 0 where the bytes are complete
-abbrev pub numberOf : Judgment → ℕ
-numberOf (Judgment.Complete h) = 0
-numberOf (Judgment.Refused r) = refusalNumber r
+abbrev pub judgmentNumber : Judgment → ℕ
+judgmentNumber (Judgment.Complete h) = 0
+judgmentNumber (Judgment.Refused r) = refusalNumber r
 
 -- its values, the head's numbers; a refusal carries zeros
 abbrev pub noHead : Head
@@ -28,16 +31,21 @@ headOf (Judgment.Refused r) = noHead
 
 -- The number and the head that judging these bytes gives.
 pub data Judges (xs : List ℕ) : ℕ → Head → Type 0 where
-  complete : (h : Head) (letters : List ℕ) → ShareOf h letters xs → Judges xs 0 h
-  unfinished : IsBeginning xs → Judges xs 7 noHead
-  malformed : IsNeither xs → Judges xs 8 noHead
+  complete : (h : Head) (letters : List ℕ) → ShareOf heads h letters xs → Judges xs 0 h
+  unfinished : IsBeginning heads xs → Judges xs 7 noHead
+  malformed : IsNeither heads xs → Judges xs 8 noHead
 
 -- The number and the head that reading these bytes gives, and what the lent buffer then holds: 7 and 8 are decided before 6.
 pub data Reads (xs before : List ℕ) : ℕ → Head → List ℕ → Type 0 where
-  complete : (h : Head) (letters : List ℕ) → ShareOf h letters xs → length before ≡ length letters → Reads xs before 0 h letters
-  unfinished : IsBeginning xs → Reads xs before 7 noHead before
-  malformed : IsNeither xs → Reads xs before 8 noHead before
-  misfit : (h : Head) (letters : List ℕ) → ShareOf h letters xs → (length before ≡ length letters → ⊥) → Reads xs before 6 noHead before
+  complete : (h : Head) (letters : List ℕ) → ShareOf heads h letters xs → length before ≡ length letters → Reads xs before 0 h letters
+  unfinished : IsBeginning heads xs → Reads xs before 7 noHead before
+  malformed : IsNeither heads xs → Reads xs before 8 noHead before
+  misfit : (h : Head) (letters : List ℕ) → ShareOf heads h letters xs → (length before ≡ length letters → ⊥) → Reads xs before 6 noHead before
+
+-- the bytes of node i's share
+unfoldable pub shareBytes : Group → ℕ → ℕ
+unfolding nodeLetters
+shareBytes g i = sizeFor kind1Size (nodeLetters g i)
 
 -- the refusals of writing: 1, 2 and 3 of the node, then 5 and 6 of the two lent buffers
 unfoldable pub fitRefusal : Head → ℕ → ℕ → ℕ
@@ -50,7 +58,7 @@ writeRefusal h packets share = first (nodeRefusal (h .group) (h .node)) (fitRefu
 -- What writing answers, with this refusal number (0: none), and what the lent buffer then holds: the share, or what it held.
 pub record Writes (h : Head) (letters before : List ℕ) (refusal : ℕ) (r : Answer) (after : List ℕ) : Type 0 where
   pub answered : Answers r refusal (shareBytes (h .group) (h .node))
-  pub held : after ≡ ifFine refusal (shareOf h letters) before
+  pub held : after ≡ ifFine refusal (shareOf heads h letters) before
 
 -- what the public call does: any head, any two buffers
 abbrev pub Written : Head → List ℕ → List ℕ → Answer → List ℕ → Type 0

@@ -1,7 +1,3 @@
--- What a share is, what any bytes are, and what the calls promise.
-pub mod Share
-pub mod Judgment
-pub mod Places
+-- What the calls promise.
 pub mod Calls
-pub mod Reading
-pub mod Writing
+pub mod Steps

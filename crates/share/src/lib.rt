@@ -1,10 +1,6 @@
 // A node's packets as stored bytes: the share, written, judged and read.
-mod heads;
 mod reading;
-mod records;
-mod runs;
 mod search;
-mod standing;
 mod writing;
 
 use group::Answer;
@@ -12,21 +8,30 @@ use group::Check;
 use group::Group;
 use group::Refusal;
 use group::checks;
-ghost use Rattle.share.specs.Calls.{Judges, Reads, Written, numberOf, headOf, headFor};
+use group::lengths;
+use heads::Head;
+use heads::kind1;
+use records::sizes;
+ghost use Rattle.group.specs.Answers.{Answers};
+ghost use Rattle.group.specs.Ranges.{nodeRefusal};
+ghost use Rattle.share.specs.Calls.{Judges, Reads, Written, judgmentNumber, headOf, headFor, shareBytes};
 
-// A share's head: whose letters it holds, and of which batch.
-pub struct Head {
-    pub group: Group,
-    pub node: usize,
-    pub batch: u32,
-}
-
-// What bytes are found to be. `numberOf` and `headOf` in specs/ give document 01's number and values for each case.
+// What bytes are found to be. `judgmentNumber` and `headOf` in specs/ give document 01's number and values for each case.
 pub enum Judgment {
     // A share, and its head.
     Complete(Head),
     // 7: the beginning of some share, but not all of it. 8: neither. Reading also has 6.
     Refused(Refusal),
+}
+
+// The bytes of a node's share. Refusals: 1, 2, 3.
+pub fn share_bytes(g: Group, node: usize) -> Answer
+    ensures { λ r. ⌜ Answers r (nodeRefusal g node) (shareBytes g node) ⌝ }
+{
+    match checks::node(g, node) {
+        Check::Refused(refusal) => Answer::Refused(refusal),
+        Check::Fine => Answer::Value(sizes::size_for(kind1::SIZE, lengths::node(g, node))),
+    }
 }
 
 // Writes a node's packets, one after another, as its share. The answer is how many bytes it has. A refused call leaves `share`
@@ -51,18 +56,18 @@ pub fn write(g: Group, node: usize, batch: u32, packets: &[u8], share: &mut [u8]
 // Judges any bytes without copying letters: a share and its head, the beginning of one (7, no bytes included), or
 // neither (8).
 pub fn judge(share: &[u8]) -> Judgment
-    ensures { λ r. ⌜ Judges (now (share .entry)) (numberOf r) (headOf r) ⌝ }
+    ensures { λ r. ⌜ Judges (now (share .entry)) (judgmentNumber r) (headOf r) ⌝ }
 {
-    let head = heads::head_in(share);
-    let letters = heads::total(head);
-    let at = search::first_wrong(share, head, letters);
-    reading::judged(head, letters, at, share.len())
+    let head = kind1::head_in(share);
+    let letters = kind1::total(head);
+    let at = search::first_wrong(share, kind1::SIZE, head, letters);
+    reading::judged(kind1::SIZE, head, letters, at, share.len())
 }
 
 // Reads any bytes. Of a share, the answer is the head, and `packets`, which must have exactly T letters, then holds its
 // letters. A refused call leaves `packets` as it was. Refusals: 7 and 8, and then 6.
 pub fn read(share: &[u8], packets: &mut [u8]) -> Judgment
-    ensures { λ r. ⌜ Reads (now (share .entry)) (now (packets .entry)) (numberOf r) (headOf r) (now (packets .exit)) ⌝ }
+    ensures { λ r. ⌜ Reads (now (share .entry)) (now (packets .entry)) (judgmentNumber r) (headOf r) (now (packets .exit)) ⌝ }
 {
     match judge(share) {
         Judgment::Refused(refusal) => Judgment::Refused(refusal),

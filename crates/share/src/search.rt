@@ -1,107 +1,48 @@
 // The search for the first byte that can't stand where it is.
-use crate::Head;
-use crate::records;
-use crate::standing;
+use heads::Head;
+use heads::kind1;
+use layout::skipping;
+use records::sizes;
+use records::standing;
 ghost use mathlib.Core.Path.{_≡_};
-ghost use Prim.Native.Nat.{_≤_, _<_};
-ghost use lib.ListN.{length};
-ghost use Rattle.share.specs.Places.{headIn, totalOf, letterBound};
-ghost use Rattle.share.specs.Reading.{Stops, Lettered, Zeros, Skips, FullBlocks};
+ghost use Prim.Native.Nat.{_<_};
+ghost use Rattle.records.specs.Records.{blockSize, totalLimit};
+ghost use Rattle.records.specs.Steps.Places.{standsIn};
+ghost use Rattle.layout.specs.Layout.{sizeIn};
+ghost use Rattle.heads.specs.Kind1.{kind1Tests};
+ghost use Rattle.heads.specs.Heads.{heads};
+ghost use Rattle.share.specs.Steps.Reading.{Stops};
 
-// How many letters follow this byte in its record: those behind a block's kind.
-fn letters_after(letters: usize, nth: usize, offset: usize) -> usize
-    requires { ⌜ letters ≤ letterBound ⌝ }
-    ensures { λ r. ⌜ Lettered letters nth offset r ⌝ }
+// A byte can stand at this offset of this record.
+fn stands_in(head: Head, letters: usize, nth: usize, offset: usize, byte: u8) -> bool
+    requires { ⌜ (letters < totalLimit) × (offset < blockSize) ⌝ }
+    ensures { λ s. ⌜ s ≡ standsIn (kind1Tests head byte) letters nth offset byte ⌝ }
 {
-    if 0 < offset {
-        return 0;
-    }
     if nth == 0 {
-        return 0;
+        return kind1::head_stands(head, offset, byte);
     }
-    if records::blocks_of(letters) < nth {
-        return 0;
-    }
-    letters::lesser(
-        letters - (nth - 1) * records::BLOCK_LETTERS,
-        records::BLOCK_LETTERS,
-    )
+    standing::record_stands(letters, nth - 1, offset, byte)
 }
 
-// The index of the first byte from `at` on that isn't zero, or `end`.
-fn past_zeros(share: &[u8], at: usize, end: usize) -> usize
-    requires { ⌜ (at ≤ end) × (end ≤ length (now share)) ⌝ }
-    ensures { λ r. ⌜ Zeros (now (share .entry)) at end r ⌝ }
-{
-    let mut i = at;
-    while i < end {
-        if share[i] != 0 {
-            return i;
-        }
-        i += 1;
-    }
-    i
-}
-
-// The byte after this one that has to be looked at, or the record's end. Any letter can stand, so letters are stepped over, and so are
-// the zeros that fill a block up.
-fn next_tested(
-    share: &[u8],
-    letters: usize,
-    nth: usize,
-    start: usize,
-    at: usize,
-    end: usize,
-) -> usize
-    requires { ⌜ (letters ≤ letterBound) × (start ≤ at) × (at < end) × (end ≤ length (now share)) ⌝ }
-    ensures { λ r. ⌜ Skips (now (share .entry)) letters nth start at end r ⌝ }
-{
-    let count = letters_after(letters, nth, at - start);
-    let past = letters::lesser(at + 1 + count, end);
-    if count == 0 {
-        return past;
-    }
-    past_zeros(share, past, end)
-}
-
-// The first block from r on that isn't a whole full one with its kind: in those before it every byte stands.
-fn past_full_blocks(share: &[u8], letters: usize, r: usize) -> usize
-    ensures { λ e. ⌜ FullBlocks (now (share .entry)) letters r e ⌝ }
-{
-    if share.len() < records::HEAD_SIZE {
-        return r;
-    }
-    let whole = (share.len() - records::HEAD_SIZE) / records::BLOCK_SIZE;
-    let most = letters::lesser(whole, letters / records::BLOCK_LETTERS);
-    let mut e = r;
-    while e < most {
-        if share[records::HEAD_SIZE + e * records::BLOCK_SIZE] != records::KIND_FULL {
-            return e;
-        }
-        e += 1;
-    }
-    e
-}
-
-// The index of the first byte that can't stand there, or the number of bytes: record by record, byte by byte. Whole full
-// blocks are stepped over.
-pub fn first_wrong(share: &[u8], head: Head, letters: usize) -> usize
-    requires { ⌜ (head ≡ headIn (now share)) × (letters ≡ totalOf head) ⌝ }
+// The index of the first byte that can't stand there, or the number of bytes: record by record, byte by byte, after a head
+// of `front` bytes. Whole full blocks are stepped over.
+pub fn first_wrong(share: &[u8], front: usize, head: Head, letters: usize) -> usize
+    requires { ⌜ (front ≡ sizeIn heads (now share)) × (head ≡ heads .headIn (now share)) × (letters ≡ heads .total head) ⌝ }
     ensures { λ r. ⌜ Stops (now (share .entry)) r ⌝ }
 {
     let mut at = 0;
     let mut nth = 0;
     'records: while at < share.len() {
         let start = at;
-        let end = letters::lesser(start + records::record_size(nth), share.len());
+        let end = letters::lesser(start + sizes::record_size(front, nth), share.len());
         while at < end {
-            if !standing::stands_in(head, letters, nth, at - start, share[at]) {
+            if !stands_in(head, letters, nth, at - start, share[at]) {
                 break 'records;
             }
-            at = next_tested(share, letters, nth, start, at, end);
+            at = skipping::next_tested(share, letters, nth, start, at, end);
         }
-        let next = past_full_blocks(share, letters, nth);
-        at += (next - nth) * records::BLOCK_SIZE;
+        let next = skipping::past_full_blocks(share, front, letters, nth);
+        at += (next - nth) * sizes::BLOCK_SIZE;
         nth = next + 1;
     }
     at

@@ -2,7 +2,7 @@
 use crate::print;
 use group::Answer;
 use group::Refusal;
-use share::Head;
+use heads::Head;
 use share::Judgment;
 
 // The value of an answer; 0 where it is refused.
@@ -110,7 +110,7 @@ fn named(head: Head, letters: usize) {
 // One line for one head, in buffers that any share fits in.
 pub fn case(head: Head) {
     let letters = value(group::packet_letters(head.group, head.node));
-    let bytes = value(group::share_bytes(head.group, head.node));
+    let bytes = value(share::share_bytes(head.group, head.node));
     let mut packets = [0u8; 64590];
     let mut back = [0u8; 64591];
     let mut share = [0u8; 65667];

@@ -1,7 +1,7 @@
 // The share of P9, each of its prefixes, and each change of one byte of its head and of its end.
 use crate::cases;
 use crate::print;
-use share::Head;
+use heads::Head;
 ghost use Prim.Native.Nat.{_+_, _≤_};
 
 // How many changes were judged complete, unfinished and malformed.

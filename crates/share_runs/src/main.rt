@@ -5,7 +5,7 @@ mod changes;
 mod print;
 
 use group::Group;
-use share::Head;
+use heads::Head;
 
 // A head by its numbers.
 fn head(n: usize, k: usize, d: usize, node: usize, l: usize, batch: u32) -> Head {

@@ -1,9 +1,9 @@
--- Demands 2 and 3 as theorems about what the calls' contracts say, in the order of document 00.
+-- The demands of document 00 as theorems about what the calls' contracts say, in its order.
 use mathlib.Core.Path.{_≡_, refl, sym, ap, ap₂, _∙_}
 use mathlib.Core.Bool.{Bool, true, false, cond}
 use mathlib.Core.List.{List}
 use mathlib.Core.Logic.{_⊎_, inl, inr}
-use Prim.Native.Nat.{ℕ, _+_, _-_, _*_, _≤_}
+use Prim.Native.Nat.{ℕ, _+_, _-_, _*_, _^_, _≤_, _<_}
 use native.Mathlib.Omega.{arith}
 use lib.Dec.{eqb}
 use lib.ListN.{length, getD, take, drop}
@@ -37,6 +37,15 @@ use Rattle.nodes.proofs.Called.{of-piece, of-entry}
 use Rattle.rebuilding.specs.Calls.{readersRefusal, Recovered}
 use Rattle.rebuilding.proofs.RecoverCalls.{readers-of, recover-of, of-recover}
 use Rattle.rebuilding.proofs.RepairCalls.{repair-of}
+use Rattle.letters.specs.Lanes.{Bytes}
+use Rattle.layout.specs.Share.{ShareOf}
+use Rattle.layout.proofs.Judgments.{cut-is-beginning}
+use Rattle.heads.specs.declared.Head.{Head}
+use Rattle.heads.specs.Heads.{heads}
+use Rattle.heads.proofs.Kind1Laws.{lawful}
+use Rattle.share.specs.Calls.{noHead, Judges, Reads, Written}
+use Rattle.share.proofs.Outcomes.{same-judging, same-reading}
+use Rattle.share.proofs.RoundTrip.{written}
 use Rattle.store.specs.Reading.{Collects}
 use Rattle.store.specs.Repairing.{Rebuilds}
 use Rattle.store.specs.Chain.{Has, letters, nothing, State, but, Fresh, lost, rebuilt, Steps, none, then}
@@ -51,6 +60,34 @@ fine-value r q v a z = a .valued ∙ if-fine q v 0 (fine-number r q v a z)
 -- a call that is not refused leaves what is right
 called-fine : (q v : ℕ) (right before after : List ℕ) (r : Answer) → Called q v right before after r → numberOf r ≡ 0 → after ≡ right
 called-fine q v right before after r c z = c .holds ∙ if-fine q right before (fine-number r q v (c .answer) z)
+
+-- ---- demand 1: a share that was cut short anywhere is never taken as complete
+
+module _ (h : Head) (packets room share : List ℕ) (r : Answer) (batch : h .batch < 2 ^ 32) (b : Bytes packets) (w : Written h packets room r share) (z : numberOf r ≡ 0) where
+  -- what `write` wrote is a share
+  wrote : ShareOf heads h packets share
+  wrote = written h packets room share r batch b (fine-number r _ _ (w .answered) z) w
+
+  -- cut anywhere: `judge` gives 7,
+  pub cut-judged : (m : ℕ) → m < length share → (q : ℕ) (found : Head) → Judges (take m share) q found → (q ≡ 7) × (found ≡ noHead)
+  cut-judged m l q found j = same-judging j (Judges.unfinished (cut-is-beginning heads lawful share m (h, packets, wrote) l))
+
+  -- and so does `read`, with the buffer as it was
+  pub cut-read :
+      (m : ℕ) → m < length share → (buffer after : List ℕ) (q : ℕ) (found : Head) → Reads (take m share) buffer q found after
+      → (q ≡ 7) × (found ≡ noHead) × (after ≡ buffer)
+  cut-read m l buffer after q found s =
+      same-reading s (Reads.unfinished (cut-is-beginning heads lawful share m (h, packets, wrote) l))
+
+  -- whole: `judge` gives the head,
+  pub whole-judged : (q : ℕ) (found : Head) → Judges share q found → (q ≡ 0) × (found ≡ h)
+  whole-judged q found j = same-judging j (Judges.complete h packets wrote)
+
+  -- and `read` the head and the letters
+  pub whole-read :
+      (buffer after : List ℕ) (q : ℕ) (found : Head) → length buffer ≡ length packets → Reads share buffer q found after
+      → (q ≡ 0) × (found ≡ h) × (after ≡ packets)
+  whole-read buffer after q found l s = same-reading s (Reads.complete h packets wrote l)
 
 -- ---- demand 2: packets are the product
 

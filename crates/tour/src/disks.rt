@@ -31,7 +31,7 @@ fn start_of(node: usize) -> usize {
 
 // The share on a node's disk.
 pub fn share_of<'a>(node: usize, store: &'a [u8]) -> &'a [u8] {
-    let bytes = lines::value(group::share_bytes(group_of_six(), node));
+    let bytes = lines::value(share::share_bytes(group_of_six(), node));
     lines::part(store, start_of(node), bytes)
 }
 
@@ -63,7 +63,7 @@ fn show(node: usize, store: &[u8]) {
 
 // Makes a node's share of batch 7 in the first bytes of `space`, and puts it on its disk.
 fn write_in(node: usize, packets: &[u8], store: &mut [u8], space: &mut [u8]) {
-    let bytes = lines::value(group::share_bytes(group_of_six(), node));
+    let bytes = lines::value(share::share_bytes(group_of_six(), node));
     if space.len() < bytes {
         return;
     }

@@ -1,7 +1,8 @@
 -- `dulvaspen_judge_share` meets its contract: 7 and 8 are decided before 6.
 use mathlib.Core.Path.{sym, subst}
 use Rattle.dulvaspen.specs.Shares.{JudgesShare}
-use Rattle.dulvaspen.proofs.Judged.{found-share, found-refusal}
+use Rattle.share.proofs.Verdicts.{found-share}
+use Rattle.dulvaspen.proofs.Judged.{found-refusal}
 use borrow.Author.Needs.{needs}
 use Rattle.dulvaspen.proofs.shares.dulvaspen_judge_share.Statement.{statement}
 use Rattle.dulvaspen.proofs.shares.dulvaspen_judge_share.Tie as tie
@@ -13,7 +14,7 @@ enum-known-found : tie.Need-enum-known-found
 enum-known-found c = search needs
 
 returns : tie.Need-returns
-returns c = let w = found-share _ _ _ (c .before .before .found .given .1) (c .before .before .before .before .judge .ensures) in
+returns c = let w = found-share _ _ _ (c .before .before .before .before .judge .ensures) (c .before .before .found .given .1) in
     JudgesShare.misfit _ (w .0) (w .1) (c .if1 .taken)
 
 put-head-requires : tie.Need-put-head-requires
@@ -29,7 +30,7 @@ same-length : tie.Need-same-length
 same-length c = search needs
 
 returns-2 : tie.Need-returns-2
-returns-2 c = let w = found-share _ _ _ (c .before .before .before .before .before .before .found .given .1) (c .before .before .before .before .before .before .before .before .judge .ensures) in
+returns-2 c = let w = found-share _ _ _ (c .before .before .before .before .before .before .before .before .judge .ensures) (c .before .before .before .before .before .before .found .given .1) in
     subst (λ xs. JudgesShare (c .before .before .before .before .before .before .before .before .before .before .before .args .share .now) (c .before .before .before .before .before .before .before .before .before .before .before .args .head .now) 0 xs) (sym (c .before .before .put-head .ensures)) (JudgesShare.complete _ (w .0) (w .1) (c .before .before .before .before .if1 .left))
 
 returns-3 : tie.Need-returns-3

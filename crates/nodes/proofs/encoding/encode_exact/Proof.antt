@@ -2,10 +2,10 @@
 use native.Mathlib.Omega.{arith}
 use mathlib.Core.Path.{refl, _∙_}
 use Rattle.group.proofs.InRange.{of-node}
-use Rattle.group.proofs.Refusals.{stopped, fine}
+use Rattle.group.proofs.Refusals.{exact-lengths, stopped, fine}
 use Rattle.group.proofs.Sizes.{node-at-most}
 use Rattle.nodes.specs.Calls.{encodeRefusal}
-use Rattle.nodes.proofs.Called.{call-refused, call-fine, exact-lengths, lengths-after}
+use Rattle.nodes.proofs.Called.{call-refused, call-fine, lengths-after}
 use Rattle.matrix.proofs.Product.{wide-packet, wide-node}
 use borrow.Author.Needs.{needs}
 use Rattle.nodes.proofs.encoding.encode_exact.Statement.{statement}

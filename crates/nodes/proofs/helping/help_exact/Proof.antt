@@ -2,10 +2,10 @@
 use native.Mathlib.Omega.{arith}
 use mathlib.Core.Path.{refl, _∙_}
 use Rattle.group.specs.Lengths.{repairLetters}
-use Rattle.group.proofs.Refusals.{stopped, fine}
+use Rattle.group.proofs.Refusals.{exact-lengths, stopped, fine}
 use Rattle.group.proofs.Sizes.{node-at-most}
 use Rattle.nodes.specs.Calls.{helpRefusal}
-use Rattle.nodes.proofs.Called.{call-refused, call-fine, exact-lengths, lengths-after, of-helper}
+use Rattle.nodes.proofs.Called.{call-refused, call-fine, lengths-after, of-helper}
 use Rattle.matrix.proofs.Product.{wide-packet, wide-node}
 use borrow.Author.Needs.{needs}
 use Rattle.nodes.proofs.helping.help_exact.Statement.{statement}

@@ -1,5 +1,8 @@
 -- `writing::fill` meets its contract: the four parts are laid one after another, and no byte is left.
-use Rattle.share.proofs.Blocks.{share-laid}
+use mathlib.Core.Path.{refl}
+use Rattle.layout.proofs.FromParts.{share-laid}
+use Rattle.heads.specs.Kind1.{kind1Size}
+use Rattle.heads.specs.Heads.{heads}
 use borrow.Author.Needs.{needs}
 use Rattle.share.proofs.writing.fill.Statement.{statement}
 use Rattle.share.proofs.writing.fill.Tie as tie
@@ -22,7 +25,7 @@ same-length c = search needs
 returns : tie.Need-returns
 returns c =
     let s = c .before .before .before .before .before .before .before .before .before .before .before .before .before .before .before .before .before .before in
-    share-laid (s .args .head) (s .args .packets .now) (s .args .share .now) _ _ _ _ (s .pre .2) (c .before .before .before .before .before .before .before .before .before .before .before .before .before .before .put-head .ensures) (c .before .before .before .before .before .before .before .before .before .before .put-full-blocks .ensures) (c .before .before .before .before .before .before .put-last-block .ensures) (c .before .before .put-end .ensures)
+    share-laid heads (s .args .head) (s .args .packets .now) kind1Size refl (s .args .share .now) _ _ _ _ (s .pre .2) (c .before .before .before .before .before .before .before .before .before .before .before .before .before .before .put-head .ensures) (c .before .before .before .before .before .before .before .before .before .before .put-full-blocks .ensures) (c .before .before .before .before .before .before .put-last-block .ensures) (c .before .before .put-end .ensures)
 
 pub fill-spec : {M : Type 1} → statement M
 fill-spec =

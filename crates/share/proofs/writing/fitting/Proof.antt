@@ -1,16 +1,17 @@
 -- `writing::fitting` meets its contract: a refusal is passed on, and where there is none the lengths are exact.
 use mathlib.Core.Path.{_≡_, sym, ap, ap₂, _∙_}
 use native.Mathlib.Omega.{arith}
-use Rattle.group.proofs.Refusals.{stopped, fine}
+use Rattle.group.proofs.Refusals.{exact-lengths, stopped, fine}
 use Rattle.group.proofs.Sizes.{node-at-most}
 use Prim.Native.Nat.{ℕ}
 use Rattle.group.specs.Answers.{first}
 use Rattle.group.specs.Ranges.{inputRefusal, outputRefusal}
-use Rattle.group.specs.Lengths.{nodeLetters, shareBytes}
-use Rattle.share.specs.declared.Head.{Head}
-use Rattle.share.specs.Places.{sizeFor}
-use Rattle.share.specs.Calls.{fitRefusal}
-use Rattle.share.proofs.Written.{write-refused, write-done, exact-lengths}
+use Rattle.group.specs.Lengths.{nodeLetters}
+use Rattle.records.specs.Records.{sizeFor}
+use Rattle.heads.specs.declared.Head.{Head}
+use Rattle.heads.specs.Kind1.{kind1Size}
+use Rattle.share.specs.Calls.{shareBytes, fitRefusal}
+use Rattle.share.proofs.Written.{write-refused, write-done}
 use borrow.Author.Needs.{needs}
 use Rattle.share.proofs.writing.fitting.Statement.{statement}
 use Rattle.share.proofs.writing.fitting.Tie as tie
@@ -23,25 +24,26 @@ unfolding fitRefusal
 checked h k letters bytes packets share el eb e = e ∙ ap₂ (λ l b. first (inputRefusal l packets) (outputRefusal b share)) el eb
 
 -- the share's bytes, by its letters
-bytes : (h : Head) (letters size : ℕ) → letters ≡ nodeLetters (h .group) (h .node) → size ≡ sizeFor letters → size ≡ shareBytes (h .group) (h .node)
+bytes : (h : Head) (letters size : ℕ) → letters ≡ nodeLetters (h .group) (h .node) → size ≡ sizeFor kind1Size letters → size ≡ shareBytes (h .group) (h .node)
 unfolding shareBytes
-bytes h letters size el es = es ∙ ap sizeFor el
+bytes h letters size el es = es ∙ ap (sizeFor kind1Size) el
 
 -- lengths that aren't refused are those of the node's letters and of its share
 exact :
     (h : Head) (packets share : ℕ) → fitRefusal h packets share ≡ 0
-    → (packets ≡ nodeLetters (h .group) (h .node)) × (share ≡ sizeFor packets)
+    → (packets ≡ nodeLetters (h .group) (h .node)) × (share ≡ sizeFor kind1Size packets)
 unfolding fitRefusal shareBytes
 exact h packets share e =
-    let w = exact-lengths (nodeLetters (h .group) (h .node)) packets (shareBytes (h .group) (h .node)) share e in
-    (w .0, w .1 ∙ ap sizeFor (sym (w .0)))
+    let w = exact-lengths packets (nodeLetters (h .group) (h .node)) share (shareBytes (h .group) (h .node)) e in
+    (w .0, w .1 ∙ ap (sizeFor kind1Size) (sym (w .0)))
 
 node-requires : tie.Need-node-requires
 node-requires c κs = search needs
 
 size-for-requires : tie.Need-size-for-requires
 size-for-requires c κs =
-    let s = c .before .before .before in omega (arith, c .node .ensures, node-at-most (s .args .head .group) (s .args .head .node) (s .pre))
+    let s = c .before .before .before in
+    (omega arith, omega (arith, c .node .ensures, node-at-most (s .args .head .group) (s .args .head .node) (s .pre)))
 
 lengths-requires : tie.Need-lengths-requires
 lengths-requires c κs = search needs

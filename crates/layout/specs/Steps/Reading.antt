@@ -1,0 +1,38 @@
+-- What the reader's loops pass over, and what they copy.
+use mathlib.Core.Path.{_≡_}
+use mathlib.Core.Bool.{Bool, true}
+use mathlib.Core.List.{List}
+use Prim.Native.Nat.{ℕ, _+_, _-_, _*_, _≤_, _<_}
+use lib.ListN.{length, getD}
+use Rattle.records.specs.Records.{kindFull, blockSize, blockLetters}
+use Rattle.records.specs.Steps.Places.{standsIn, letterIn}
+
+-- the letters that these bytes have in their blocks, so many
+pub record Copied (head : ℕ) (xs : List ℕ) (count : ℕ) (letters : List ℕ) : Type 0 where
+  pub counted : length letters ≡ count
+  pub copied : (i : ℕ) → i < count → getD letters i 0 ≡ letterIn head xs i
+
+-- so many bytes after this one in its record are letters: any byte can stand there, and where there are any, zero up to the record's end
+pub record Lettered (letters nth offset count : ℕ) : Type 0 where
+  pub few : count ≤ blockLetters
+  pub any : (tests : List Bool) (j byte : ℕ) → offset < j → j ≤ offset + count → standsIn tests letters nth j byte ≡ true
+  pub filled : 1 ≤ count → (tests : List Bool) (j : ℕ) → offset < j → standsIn tests letters nth j 0 ≡ true
+
+-- from index a up to r all bytes are zero
+pub record ZerosTo (xs : List ℕ) (a end r : ℕ) : Type 0 where
+  pub on : a ≤ r
+  pub within : r ≤ end
+  pub zeros : (p : ℕ) → a ≤ p → p < r → getD xs p 0 ≡ 0
+
+-- between the byte at this index and the next one that is looked at, all bytes of the record stand
+pub record Skips (xs : List ℕ) (letters nth start at end next : ℕ) : Type 0 where
+  pub on : at < next
+  pub within : next ≤ end
+  pub stand : (tests : List Bool) (p : ℕ) → at < p → p < next → standsIn tests letters nth (p - start) (getD xs p 0) ≡ true
+
+-- from block r up to e all blocks are there, full, and of that kind
+pub record FullBlocks (head : ℕ) (xs : List ℕ) (letters r e : ℕ) : Type 0 where
+  pub on : r ≤ e
+  pub there : r < e → head + e * blockSize ≤ length xs
+  pub full : r < e → e * blockLetters ≤ letters
+  pub kinds : (q : ℕ) → r ≤ q → q < e → getD xs (head + q * blockSize) 0 ≡ kindFull

@@ -1,0 +1,2 @@
+-- The laws of the records of a share.
+pub mod Places

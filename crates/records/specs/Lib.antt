@@ -1,0 +1,3 @@
+-- The records of a share that follow its head.
+pub mod Records
+pub mod Steps

@@ -1,0 +1,2 @@
+-- What the code goes by between two statements: no reader has to believe these.
+pub mod Reading
