@@ -4,8 +4,13 @@
 #   called     how a user calls programs here, as './run '; a name comes after it
 #   start      a function that runs the program of the name that it is given, on its own standard input
 #
+# A standard input that is closed is noted and opened at once: whatever is opened next would stand in its place.
+#
 # POSIX sh.
 # shellcheck shell=sh disable=SC2154
+
+closed=''
+(exec 3<&0) 2>/dev/null || { closed=1; exec </dev/null; }
 
 # What a program is for, its arguments, its statuses and an example. Without a name: what there is.
 help_of() {
@@ -62,10 +67,8 @@ status_of_line() {
     esac
 }
 
-# Judges standard input; $1 stands before the line. The status is the line's. The program says itself that it can't read; but
-# with a closed input it is not started, since whatever is opened next would stand in its place.
+# Judges standard input; $1 stands before the line. The status is the line's. The program says itself that it can't read.
 judge_input() {
-    (: <&0) 2>/dev/null || { echo "judge: standard input is closed" >&2; return 5; }
     line=$(start judge) || { echo "judge: the program itself failed" >&2; return 2; }
     [ -n "$line" ] || return 5
     printf '%s%s\n' "$1" "$line" || return 5
@@ -89,7 +92,11 @@ judge_file() {
 
 # Judges all files, or standard input where none is named. The highest status counts.
 judge_all() {
-    [ $# -gt 0 ] || { judge_input ''; return; }
+    if [ $# -eq 0 ]; then
+        [ -z "$closed" ] || { echo "judge: standard input is closed" >&2; return 5; }
+        judge_input ''
+        return
+    fi
     worst=0
     for file do
         judge_file "$file" && status=0 || status=$?
@@ -120,7 +127,7 @@ run_program() {
     case $name in
     judge) judge_all "$@" ;;
     tour) run_and_look tour 'It is the batch, letter for letter.' ;;
-    desk) run_and_look desk 'all agree' ;;
+    desk) run_and_look desk 'examples agree: all' ;;
     *) start "$name" "$@" ;;
     esac
 }
