@@ -1,5 +1,6 @@
-/* A night in one screen: a batch is encoded and written as shares, a copy stops one byte short, two nodes are lost, one is repaired from d
- * others, and the batch is recovered from k and compared. Prints what it does; exits with 1 where anything is not as it should be. */
+/* A night in one screen, with six disks in memory: a batch is spread as shares, a copy stops one byte short, two disks are lost, one is
+ * rebuilt from d others, and the batch is recovered from k and compared. All goes from shares: no packets are kept beside them. Prints what
+ * it does; exits with 1 where anything is not as it should be. examples/spread.c does the same with files and folders. */
 #include "dulvaspen.h"
 #include <stdio.h>
 #include <stdlib.h>
@@ -7,51 +8,101 @@
 
 enum { N = 6, K = 3, D = 4, L = 1000, BATCH = 7 };
 
+static uint8_t file[DULVASPEN_MOST_FILE], buffer[DULVASPEN_MOST_FILE], packets[DULVASPEN_MOST_PACKETS], rebuilt[DULVASPEN_MOST_PACKETS];
+static uint8_t disk[N + 1][DULVASPEN_MOST_SHARE]; /* disk i holds node i's share */
+static uint64_t letters;                          /* of the batch */
+
 static void must(uint64_t refusal, const char *what) {
-    if (refusal) { printf("%s: refused by %llu\n", what, (unsigned long long)refusal); exit(1); }
+    if (refusal) { printf("%s: refused by %u\n", what, (unsigned)refusal); exit(1); }
+}
+
+static void expect(int good, const char *what) {
+    if (!good) { printf("WRONG: %s\n", what); exit(1); }
+}
+
+static uint64_t letters_of(uint64_t node) {
+    uint64_t held;
+    must(dulvaspen_packet_letters(N, K, D, L, node, &held), "packet_letters");
+    return held;
+}
+
+static uint64_t bytes_of(uint64_t node) {
+    uint64_t bytes;
+    must(dulvaspen_share_bytes(N, K, D, L, node, &bytes), "share_bytes");
+    return bytes;
+}
+
+/* Writes a node's packets as its share, on its disk. */
+static void store(uint64_t node, const uint8_t *held) {
+    must(dulvaspen_write_share(N, K, D, L, node, BATCH, held, letters_of(node), disk[node], bytes_of(node)), "write_share");
+}
+
+/* Reads a node's share from its disk into `packets`: complete, of this batch and of this node. */
+static void load(uint64_t node) {
+    uint64_t head[DULVASPEN_HEAD_NUMBERS];
+    must(dulvaspen_read_share(disk[node], bytes_of(node), packets, letters_of(node), head, DULVASPEN_HEAD_NUMBERS), "read_share");
+    expect(head[0] == N && head[1] == K && head[2] == D && head[4] == L, "a share of another group");
+    expect(head[3] == node && head[5] == BATCH, "a share of another node or batch");
+}
+
+/* Disk 5's share less one byte, as a copy leaves it that stops short. */
+static void cut(void) {
+    uint64_t head[DULVASPEN_HEAD_NUMBERS];
+    uint64_t judged = dulvaspen_judge_share(disk[5], bytes_of(5) - 1, head, DULVASPEN_HEAD_NUMBERS);
+    printf("disk 5's share less one byte: %s\n", judged == 7 ? "unfinished" : "WRONG");
+    expect(judged == 7, "a cut share is not judged unfinished");
+}
+
+/* Node 2 from 6, 4, 3 and 1. */
+static void rebuild(void) {
+    uint64_t helpers[D] = {6, 4, 3, 1}, piece, count;
+    must(dulvaspen_repair_letters(N, K, D, L, 2, &piece), "repair_letters");
+    for (uint64_t u = 1; u <= D; u++) {
+        uint64_t helper = helpers[u - 1];
+        load(helper);
+        must(dulvaspen_help(N, K, D, L, 2, helper, u, packets, letters_of(helper), rebuilt + (u - 1) * piece, piece), "help");
+    }
+    must(dulvaspen_repair(N, K, D, L, 2, helpers, D, rebuilt, D * piece, &count), "repair");
+    store(2, rebuilt);
+    printf("disk 2 rebuilt from %d pieces of %u letters, %u additions\n", D, (unsigned)piece, (unsigned)count);
+}
+
+/* The batch from 4, the rebuilt 2, and 1. */
+static void recover(void) {
+    uint64_t ids[K] = {4, 2, 1}, from, to, count;
+    for (uint64_t v = 1; v <= K; v++) {
+        uint64_t node = ids[v - 1];
+        load(node);
+        for (uint64_t u = v; u <= D; u++) {
+            must(dulvaspen_piece(N, K, D, L, node, v, u, packets, letters_of(node), &from), "piece");
+            must(dulvaspen_entry(N, K, D, L, v, u, &to), "entry");
+            memcpy(buffer + to, packets + from, L);
+        }
+    }
+    must(dulvaspen_recover(N, K, D, L, ids, K, buffer, letters, &count), "recover");
+    printf("batch of %u letters recovered from disks 4, 2 and 1, %u additions\n", (unsigned)letters, (unsigned)count);
 }
 
 int main(void) {
-    uint64_t letters, held[N + 1], bytes, count, head[6];
-    uint8_t *packets[N + 1], *share;
     must(dulvaspen_file_letters(N, K, D, L, &letters), "file_letters");
-    uint8_t *file = malloc(letters), *buffer = malloc(letters);
     for (uint64_t i = 0; i < letters; i++) file[i] = (uint8_t)(i * 131 + i / 7);
-
-    for (uint64_t i = 1; i <= N; i++) { /* every node's packets */
-        must(dulvaspen_packet_letters(N, K, D, L, i, &held[i]), "packet_letters");
-        packets[i] = malloc(held[i]);
-        must(dulvaspen_encode(N, K, D, L, i, file, letters, packets[i], held[i]), "encode");
+    for (uint64_t node = 1; node <= N; node++) {
+        must(dulvaspen_encode(N, K, D, L, node, file, letters, packets, letters_of(node)), "encode");
+        store(node, packets);
     }
+    printf("batch of %u letters on %d disks\n", (unsigned)letters, N);
+    cut();
 
-    must(dulvaspen_share_bytes(N, K, D, L, 5, &bytes), "share_bytes"); /* node 5's share, whole and cut short by one byte */
-    share = malloc(bytes);
-    must(dulvaspen_write_share(N, K, D, L, 5, BATCH, packets[5], held[5], share, bytes), "write_share");
-    must(dulvaspen_judge_share(share, bytes, head, 6), "judge_share");
-    printf("share of node %llu, batch %llu: complete\n", (unsigned long long)head[3], (unsigned long long)head[5]);
-    printf("the same less one byte: %s\n", dulvaspen_judge_share(share, bytes - 1, head, 6) == 7 ? "unfinished" : "WRONG");
-
-    uint64_t piece, helpers[D] = {6, 4, 3, 1}; /* nodes 2 and 5 are lost; 2 is rebuilt from 6, 4, 3 and 1 */
-    must(dulvaspen_repair_letters(N, K, D, L, 2, &piece), "repair_letters");
-    uint8_t *rebuilt = malloc(D * piece);
-    for (uint64_t u = 1; u <= D; u++)
-        must(dulvaspen_help(N, K, D, L, 2, helpers[u - 1], u, packets[helpers[u - 1]], held[helpers[u - 1]], rebuilt + (u - 1) * piece, piece), "help");
-    must(dulvaspen_repair(N, K, D, L, 2, helpers, D, rebuilt, D * piece, &count), "repair");
-    printf("node 2 rebuilt from %d pieces of %llu letters, %llu additions: %s\n", D, (unsigned long long)piece, (unsigned long long)count,
-           memcmp(rebuilt, packets[2], held[2]) ? "WRONG" : "exactly as it was");
-
-    uint64_t ids[K] = {4, 2, 1}, from, to; /* the batch from 4, the rebuilt 2, and 1 */
-    for (uint64_t v = 1; v <= K; v++)
-        for (uint64_t u = v; u <= D; u++) {
-            uint64_t i = ids[v - 1];
-            const uint8_t *p = i == 2 ? rebuilt : packets[i];
-            must(dulvaspen_piece(N, K, D, L, i, v, u, p, held[i], &from), "piece");
-            must(dulvaspen_entry(N, K, D, L, v, u, &to), "entry");
-            memcpy(buffer + to, p + from, L);
-        }
-    must(dulvaspen_recover(N, K, D, L, ids, K, buffer, letters, &count), "recover");
-    int same = !memcmp(buffer, file, letters) && !memcmp(rebuilt, packets[2], held[2]);
-    printf("batch of %llu letters recovered from nodes 4, 2 and 1, %llu additions: %s\n", (unsigned long long)letters, (unsigned long long)count,
-           same ? "the same" : "WRONG");
-    return !same;
+    must(dulvaspen_encode(N, K, D, L, 2, file, letters, packets, letters_of(2)), "encode");
+    memcpy(buffer, packets, letters_of(2)); /* only to compare */
+    memset(disk[2], 0, sizeof disk[2]);
+    memset(disk[5], 0, sizeof disk[5]);
+    printf("disks 2 and 5 lost\n");
+    rebuild();
+    expect(!memcmp(rebuilt, buffer, letters_of(2)), "disk 2 is not what it was");
+    memset(buffer, 0, sizeof buffer);
+    recover();
+    expect(!memcmp(buffer, file, letters), "the batch is not what it was");
+    printf("both exactly as they were\n");
+    return 0;
 }

@@ -1,12 +1,19 @@
-/* Dulvaspen: a store of a shift-and-XOR product-matrix regenerating code, proved in Rattle.
+/* Dulvaspen: a store of a shift-and-XOR product-matrix regenerating code, proved in Rattle. docs/SCHEME.md says the rules on one page.
  *
  * A batch is a file of B*L letters (bytes), B = k*d - k*(k-1)/2. Each of n nodes holds d packets, T letters in all. Any k nodes give the
  * file back, any d rebuild a lost node exactly.
  *
  *   n  nodes, 3 to 16            k, d   2 <= k <= d <= n-1            l  letters in a sequence (L), 1 to 4,096
  *   ids and nodes count from 1; ranks and columns count from 1
+ *   rank: a node's place in the list of the k ids that are read, or of the d that help. The list falls strictly: of the nodes 4, 2 and 1
+ *   node 4 has rank 1, node 2 rank 2 and node 1 rank 3
  *
- * Every call takes any numbers and any bytes. It returns 0, or the number of the refusal, the lowest that applies:
+ * THE BUFFERS OF ONE CALL MUST NOT OVERLAP: no letter and no number that a call is lent through one pointer may be lent to it through
+ * another, too. It can't be noticed: a share that was written over the packets that it was made of is judged complete, and its letters
+ * are wrong. The table below has no number for it, since each refusal is given exactly in the cases named there; and the proof is about
+ * buffers that don't overlap. recover and repair work in place, in the one buffer that they are lent.
+ *
+ * Every call takes any numbers and any bytes. It returns 0, or the number of the refusal (why it is turned down), the lowest that applies:
  *
  *   1  n, k or d outside the ranges above
  *   2  l outside its range
@@ -21,14 +28,54 @@
  * number behind a pointer. Lengths are in letters, which are bytes. A pointer may be anything where its length is 0; pointers to numbers
  * must be valid. Nothing is allocated or kept, and calls on different buffers may run at the same time.
  *
+ * A share is a node's packets as stored bytes. Numbers are least byte first:
+ *
+ *   offset        bytes   what
+ *   0             1       1, the kind of the head
+ *   1, 2, 3, 4    1 each  n, k, d, node
+ *   5             2       L
+ *   7             4       batch
+ *   11            65 each for every 64 letters a full block: 2, its kind, and 64 letters; floor(T/64) of them, which may be none
+ *   then          65      where 64 doesn't divide T a last block: 3, its kind, the other letters, and zeros up to 64
+ *   then          5       4, the kind of the end, and T in 4 bytes
+ *
+ * BEFORE YOU RECOVER OR REPAIR, judge each share and compare the heads: n, k, d, L and batch must be equal in all of them, and the nodes
+ * must all differ. No call can do it, since recover and help are handed letters and not shares; and packets of two batches give letters of
+ * neither. The ids to hand on are the nodes of the heads, sorted so that they fall.
+ *
+ * A complete share says nothing of the shares that should stand beside it: where several stand in one file, a file that was cut between
+ * two of them holds complete shares only. Keep how many there are, or the real length, where it is not cut with them, and count
+ * (examples/spread.c keeps the length in the first letters of a file's first batch). Nor is a flipped letter noticed: every letter may be
+ * any byte. docs/SCHEME.md, 10, says what does notice it.
+ *
  * The archive is made by `rt staticlib dulvaspen` (target/staticlib/libdulvaspen.a, for x86-64 Linux):
  *
  *   cc -Iinclude examples/night.c target/staticlib/libdulvaspen.a -o night
+ *
+ * or, after `./install PREFIX`, with PREFIX/lib/pkgconfig in PKG_CONFIG_PATH:
+ *
+ *   cc examples/night.c $(pkg-config --cflags --libs dulvaspen) -o night
  */
 #ifndef DULVASPEN_H
 #define DULVASPEN_H
 
 #include <stdint.h>
+
+/* The version of this header and of the library that it was installed with. MAJOR rises where a call or a number changes its meaning, MINOR
+ * where something is added. */
+#define DULVASPEN_VERSION_MAJOR 1
+#define DULVASPEN_VERSION_MINOR 0
+#define DULVASPEN_VERSION "1.0"
+
+/* The most that any allowed numbers give, for callers with fixed buffers. A call is still lent the exact length, so the first so many letters
+ * of such a buffer. The file is that of k = d = 15; packets, piece for a repair and share are those of node 16 with d = 15; all with L = 4,096. */
+#define DULVASPEN_MOST_NODES 16
+#define DULVASPEN_MOST_LENGTH 4096     /* L */
+#define DULVASPEN_MOST_FILE 491520     /* B*L = 120 * 4,096, the collector's buffer, too */
+#define DULVASPEN_MOST_PACKETS 64590   /* T = 15 * (4,096 + 15 * 14), a repair's buffer, too */
+#define DULVASPEN_MOST_PIECE 4306      /* L' = 4,096 + 15 * 14, one helper's piece */
+#define DULVASPEN_MOST_SHARE 65666     /* bytes: 11 + 65 * 1,010 + 5 */
+#define DULVASPEN_HEAD_NUMBERS 6       /* n, k, d, node, L, batch */
 
 #ifdef __cplusplus
 extern "C" {
@@ -67,7 +114,8 @@ uint64_t dulvaspen_piece(uint64_t n, uint64_t k, uint64_t d, uint64_t l, uint64_
                          const uint8_t *packets, uint64_t packets_len, uint64_t *start);
 
 /* Where the collector puts that piece: from buffer[*start] on. Refusals: 1, 2, 3.
- * Example: for v = 1..k and u = v..d copy L letters from node v's packets + piece's start to buffer + entry's start. */
+ * Example: for v = 1..k and u = v..d copy L letters from packets + piece's start to buffer + entry's start, where packets are those of the node
+ * of rank v, which is ids[v-1]: the v-th of the k ids, which fall strictly. */
 uint64_t dulvaspen_entry(uint64_t n, uint64_t k, uint64_t d, uint64_t l, uint64_t rank, uint64_t column, uint64_t *start);
 
 /* Turns the pieces in buffer into the file, in place: the one file that has those pieces, whatever their letters. ids are the k nodes,

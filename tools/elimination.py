@@ -86,7 +86,7 @@ def solved(rows, letters, most=300, both=60):
 
 
 def additions(s, n, ids):
-    """Document 01's sum over ordered pairs of ranks."""
+    """Document 01's sum over ordered pairs of ranks (docs/SCHEME.md, 8)."""
     ranks = range(1, s + 1)
     return sum(max(0, n - abs(shift(ids[b - 1], a) - shift(ids[b - 1], b))) for b in ranks for a in ranks if a != b)
 

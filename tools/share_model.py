@@ -1,12 +1,12 @@
 #!/usr/bin/env python3
-"""What crates/share_runs writes, worked out from document 01 alone, without the store's code.
+"""What crates/share_runs writes, worked out from document 01 alone (docs/SCHEME.md, 1 and 9), without the store's code.
 
 Make the expected output again, from the root of the repository:
 
     python3 tools/share_model.py > crates/share_runs/stdout
 
 A share is a list of what may stand at each index: one byte, or any byte where a letter stands. Bytes are a share if they
-are as many and each may stand there; they are the beginning of one if some head of document 01's ranges, whose own bytes
+are as many and each may stand there; they are the beginning of one if some head of its ranges, whose own bytes
 begin with theirs, has a share that they are fewer than and may stand in. Every head is tried, by listing all of them.
 """
 
@@ -35,7 +35,7 @@ def records_after_head(letters):
     return may + [[byte] for byte in [4] + number(letters, 4)]
 
 
-# every head of document 01's ranges but for its batch, which may be any: what stands before L, and L itself
+# every head of the ranges but for its batch, which may be any: what stands before L, and L itself
 STARTS = [(1, n, k, d, node) for n in range(3, 17) for d in range(2, n) for k in range(2, d + 1) for node in range(1, n + 1)
           if in_range(n, k, d)]
 START_PREFIXES = {start[:count] for start in STARTS for count in range(6)}

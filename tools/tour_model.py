@@ -1,5 +1,5 @@
 #!/usr/bin/env python3
-"""What the program `tour` says, from document 01's sums alone (no code is shared with the store):
+"""What the program `tour` says, from document 01's sums alone (docs/SCHEME.md, 4, 7, 8 and 9; no code is shared with the store):
 
     tools/tour_model.py > crates/tour/stdout
 
@@ -13,7 +13,7 @@ def t(i, j):
 
 
 def solving(ids, s, length):
-    """Document 01's count of solving: the first s nodes, this length."""
+    """The count of solving (docs/SCHEME.md, 8): the first s nodes, this length."""
     return sum(max(0, length - abs(t(ids[b - 1], a) - t(ids[b - 1], b))) for a in range(1, s + 1) for b in range(1, s + 1) if a != b)
 
 

@@ -1,4 +1,4 @@
--- The night-desk examples P1 to P12 of document 01: what an example is, the list, and what it means that one holds.
+-- The night-desk examples P1 to P12 of document 01 (docs/SCHEME.md, 12): what an example is, the list, and what it means that one holds.
 use mathlib.Core.Path.{_≡_}
 use mathlib.Core.List.{List, [], _∷_, _++_}
 use Prim.Native.Nat.{ℕ, _<_}

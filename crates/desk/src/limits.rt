@@ -1,17 +1,17 @@
-// The line "Limits" of document 01, value by value.
+// The line "Limits" of document 01 (docs/SCHEME.md, 12), value by value.
 use group::Answer;
 use group::Group;
 use group::Refusal;
 
-// Says whether a call answers or refuses, and by which number.
-pub fn verdict(words: &[u8], number: usize) {
+// Says whether a call answers or refuses, and by which number, and compares the number; 0 is for an answer.
+pub fn verdict(count: usize, words: &[u8], number: usize, wanted: usize) -> usize {
     lines::say(words);
     if number == 0 {
-        lines::say(b" answers\n");
+        lines::say(b" answers");
     } else {
         lines::number(b" refuses ", number);
-        lines::say(b"\n");
     }
+    lines::agreed(count, number == wanted)
 }
 
 // Encodes a node into the first letters of `space`.
@@ -31,32 +31,46 @@ pub fn encode(g: Group, node: usize, file_letters: usize, letters: usize) -> usi
 }
 
 // A line for a group: node 1 encoded, with the lengths that the group gives.
-fn group(words: &[u8], n: usize, k: usize, d: usize, l: usize) {
-    let g = Group { n, k, d, l };
+fn group(count: usize, words: &[u8], g: Group, wanted: usize) -> usize {
     let file_letters = lines::value(group::file_letters(g));
     let letters = lines::value(group::packet_letters(g, 1));
-    verdict(words, encode(g, 1, file_letters, letters));
+    verdict(count, words, encode(g, 1, file_letters, letters), wanted)
 }
 
 // A line for two ids: a recovery in P8's group.
-fn ids(words: &[u8], ids: &[usize]) {
+fn ids(count: usize, words: &[u8], ids: &[usize], wanted: usize) -> usize {
     let mut buffer = [0x01u8, 0x10, 0x40];
     let answer = store::recovery::recover(crate::examples::desk(1), ids, &mut buffer);
-    verdict(words, group::answer_number(answer));
+    verdict(count, words, group::answer_number(answer), wanted)
 }
 
-pub fn all() {
-    group(b"n 3", 3, 2, 2, 1);
-    group(b"n 16", 16, 2, 2, 1);
-    group(b"n 2", 2, 2, 2, 1);
-    group(b"n 17", 17, 2, 2, 1);
-    group(b"n 5, d = n-1", 5, 2, 4, 1);
-    group(b"n 5, d = n", 5, 2, 5, 1);
-    group(b"n 5, k = d", 5, 3, 3, 1);
-    group(b"L 1", 3, 2, 2, 1);
-    group(b"L 4096", 3, 2, 2, 4096);
-    group(b"L 0", 3, 2, 2, 0);
-    group(b"L 4097", 3, 2, 2, 4097);
-    ids(b"ids 2,2", &[2, 2]);
-    ids(b"ids 2,0", &[2, 0]);
+// A group's four numbers.
+fn of(n: usize, k: usize, d: usize, l: usize) -> Group {
+    Group { n, k, d, l }
+}
+
+fn nodes(count: usize) -> usize {
+    let three = group(count, b"n 3", of(3, 2, 2, 1), 0);
+    let sixteen = group(three, b"n 16", of(16, 2, 2, 1), 0);
+    let two = group(sixteen, b"n 2", of(2, 2, 2, 1), 1);
+    group(two, b"n 17", of(17, 2, 2, 1), 1)
+}
+
+fn helpers(count: usize) -> usize {
+    let most = group(count, b"n 5, d = n-1", of(5, 2, 4, 1), 0);
+    let more = group(most, b"n 5, d = n", of(5, 2, 5, 1), 1);
+    group(more, b"n 5, k = d", of(5, 3, 3, 1), 0)
+}
+
+fn lengths(count: usize) -> usize {
+    let one = group(count, b"L 1", of(3, 2, 2, 1), 0);
+    let most = group(one, b"L 4096", of(3, 2, 2, 4096), 0);
+    let none = group(most, b"L 0", of(3, 2, 2, 0), 2);
+    group(none, b"L 4097", of(3, 2, 2, 4097), 2)
+}
+
+pub fn all(count: usize) -> usize {
+    let groups = lengths(helpers(nodes(count)));
+    let same = ids(groups, b"ids 2,2", &[2, 2], 4);
+    ids(same, b"ids 2,0", &[2, 0], 3)
 }

@@ -1,67 +1,25 @@
-// Judges the share on standard input, and writes one line: what it is.
-use group::Answer;
-use group::Refusal;
-use heads::Head;
-use libc::STDIN_FILENO;
+// Judges the share on standard input, and writes one line: what it is. Where standard input can't be read, there is a line on standard
+// error, and no judgment.
+mod input;
+
+use libc::STDERR_FILENO;
 use libc::STDOUT_FILENO;
-use share::Judgment;
 
-// Writes some words.
-fn say(words: &[u8]) {
-    io::write_all(STDOUT_FILENO, words);
-}
-
-// Writes a word and a number after it.
-fn say_number(word: &[u8], n: usize) {
-    say(word);
-    io::print_decimal(STDOUT_FILENO, n as u64);
-}
-
-// T, the letters of a share with this head.
-fn letters(head: Head) -> usize {
-    match group::packet_letters(head.group, head.node) {
-        Answer::Value(letters) => letters,
-        Answer::Refused(_) => 0,
-    }
-}
-
-// `complete`, the group's three numbers, and the rest by name.
-fn say_complete(head: Head) {
-    let g = head.group;
-    say_number(b"complete ", g.n);
-    say_number(b" ", g.k);
-    say_number(b" ", g.d);
-    say_number(b" node ", head.node);
-    say_number(b" length ", g.l);
-    say_number(b" batch ", head.batch as usize);
-    say_number(b" letters ", letters(head));
-    say(b"\n");
-}
-
-// `unfinished` for refusal 7; judging has but 8 besides.
-fn say_refused(refusal: Refusal) {
-    match refusal {
-        Refusal::Unfinished => say(b"unfinished\n"),
-        _ => say(b"malformed\n"),
-    }
-}
-
-// The line for these bytes.
+// Writes the line for these bytes.
 fn tell(bytes: &[u8]) {
-    if 65536 < bytes.len() {
-        say(b"too long for this program\n");
-        return;
-    }
-    match share::judge(bytes) {
-        Judgment::Complete(head) => say_complete(head),
-        Judgment::Refused(refusal) => say_refused(refusal),
-    }
+    let mut line = [0u8; 192];
+    let count = verdict::line(bytes, &mut line);
+    io::write_all(STDOUT_FILENO, &line[..count]);
 }
 
-// Reads one byte more than the program takes, to see whether there are too many. A standard input that can't be read
-// counts as no bytes.
+// Reads one byte more than the line is made for, to see whether there are too many.
 fn main() {
     let mut bytes = [0u8; 65537];
-    let count = io::read_full(STDIN_FILENO, &mut bytes);
+    let input = input::read(&mut bytes);
+    if input.failed {
+        io::write_all(STDERR_FILENO, b"judge: standard input can't be read\n");
+        return;
+    }
+    let count = input.count;
     tell(&bytes[..count]);
 }

@@ -13,6 +13,7 @@ pub use parts::part;
 pub use parts::put;
 pub use parts::same;
 pub use parts::start;
+pub use words::agreed;
 pub use words::answer;
 pub use words::checksum;
 pub use words::group;

@@ -19,6 +19,23 @@ fn letter(letter: u8) {
     io::print_hex(STDOUT_FILENO, letter as u64, 2);
 }
 
+// One more, of a count that is small.
+fn one_more(count: usize) -> usize {
+    if count < 1000 { count + 1 } else { count }
+}
+
+// Ends a line that says what came out of an example: as it is where that is what must come out, and marked where it isn't. The answer
+// is how many examples agree, this one included, after `count` before it.
+pub fn agreed(count: usize, good: bool) -> usize {
+    if good {
+        say(b"\n");
+        one_more(count)
+    } else {
+        say(b" which is NOT what must come out\n");
+        count
+    }
+}
+
 // Some words, and the letters after them.
 pub fn letters(words: &[u8], letters: &[u8]) {
     say(words);

@@ -1,0 +1,23 @@
+-- Document 01's example of the line (docs/SCHEME.md, 13), computed from the definitions: the line of P9's head.
+use mathlib.Core.Path.{_≡_, refl}
+use mathlib.Core.List.{List, [], _∷_}
+use Prim.Native.Nat.{ℕ}
+use Rattle.shifts.specs.Rule.{t}
+use Rattle.group.specs.Lengths.{nodeLetters}
+use Rattle.heads.specs.declared.Head.{Head}
+use Rattle.verdict.specs.Line.{places, decimal, lineFor}
+
+-- [3,2,2], L = 1, node 1, batch 7
+abbrev ninth : Head
+ninth = record { group = record { n = 3; k = 2; d = 2; l = 1 }; node = 1; batch = 7 }
+
+-- "complete 3 2 2 node 1 length 1 batch 7 letters 2" and the end of the line
+abbrev wanted : List ℕ
+wanted =
+    99 ∷ 111 ∷ 109 ∷ 112 ∷ 108 ∷ 101 ∷ 116 ∷ 101 ∷ 32 ∷ 51 ∷ 32 ∷ 50 ∷ 32 ∷ 50 ∷ 32 ∷ 110 ∷ 111 ∷ 100 ∷ 101 ∷ 32 ∷ 49 ∷ 32 ∷ 108 ∷
+    101 ∷ 110 ∷ 103 ∷ 116 ∷ 104 ∷ 32 ∷ 49 ∷ 32 ∷ 98 ∷ 97 ∷ 116 ∷ 99 ∷ 104 ∷ 32 ∷ 55 ∷ 32 ∷ 108 ∷ 101 ∷ 116 ∷ 116 ∷ 101 ∷ 114 ∷ 115 ∷
+    32 ∷ 50 ∷ 10 ∷ []
+
+pub ninth-line : lineFor 0 ninth ≡ wanted
+unfolding places decimal nodeLetters t
+ninth-line = refl

@@ -1,0 +1,2 @@
+-- The judge's line.
+pub mod Line

@@ -1,0 +1,106 @@
+-- The judge's line for any bytes (document 01, its last lines on the examples; docs/SCHEME.md, 13).
+use mathlib.Core.Path.{_≡_}
+use mathlib.Core.Bool.{cond}
+use mathlib.Core.List.{List, [], _∷_, _++_}
+use Prim.Native.Nat.{ℕ, zero, suc, _+_, _/_, _≤_, _<_}
+use lib.Dec.{ltb, eqb}
+use lib.ListN.{length, take, drop}
+use Rattle.io.specs.Digits.{digits}
+use Rattle.group.specs.declared.Group.{Group}
+use Rattle.group.specs.Lengths.{nodeLetters}
+use Rattle.heads.specs.declared.Head.{Head}
+use Rattle.share.specs.Calls.{Judges}
+
+-- how many decimal digits a number has, if it has at most one more than the first number says
+unfoldable pub places : ℕ → ℕ → ℕ
+places zero n = 1
+places (suc more) n = cond (ltb n 10) 1 (suc (places more (n / 10)))
+
+-- a number below 10^20 in decimal, with no zeros in front
+unfoldable pub decimal : ℕ → List ℕ
+decimal n = digits 10 (places 19 n) n
+
+-- "complete "
+abbrev pub completeWord : List ℕ
+completeWord = 99 ∷ 111 ∷ 109 ∷ 112 ∷ 108 ∷ 101 ∷ 116 ∷ 101 ∷ 32 ∷ []
+
+-- " "
+abbrev pub space : List ℕ
+space = 32 ∷ []
+
+-- " node "
+abbrev pub nodeWord : List ℕ
+nodeWord = 32 ∷ 110 ∷ 111 ∷ 100 ∷ 101 ∷ 32 ∷ []
+
+-- " length "
+abbrev pub lengthWord : List ℕ
+lengthWord = 32 ∷ 108 ∷ 101 ∷ 110 ∷ 103 ∷ 116 ∷ 104 ∷ 32 ∷ []
+
+-- " batch "
+abbrev pub batchWord : List ℕ
+batchWord = 32 ∷ 98 ∷ 97 ∷ 116 ∷ 99 ∷ 104 ∷ 32 ∷ []
+
+-- " letters "
+abbrev pub lettersWord : List ℕ
+lettersWord = 32 ∷ 108 ∷ 101 ∷ 116 ∷ 116 ∷ 101 ∷ 114 ∷ 115 ∷ 32 ∷ []
+
+-- the end of a line
+abbrev pub newLine : List ℕ
+newLine = 10 ∷ []
+
+-- "unfinished" and the end of the line
+abbrev pub unfinishedLine : List ℕ
+unfinishedLine = 117 ∷ 110 ∷ 102 ∷ 105 ∷ 110 ∷ 105 ∷ 115 ∷ 104 ∷ 101 ∷ 100 ∷ 10 ∷ []
+
+-- "malformed" and the end of the line
+abbrev pub malformedLine : List ℕ
+malformedLine = 109 ∷ 97 ∷ 108 ∷ 102 ∷ 111 ∷ 114 ∷ 109 ∷ 101 ∷ 100 ∷ 10 ∷ []
+
+-- "too long for this program" and the end of the line
+abbrev pub tooLongLine : List ℕ
+tooLongLine = 116 ∷ 111 ∷ 111 ∷ 32 ∷ 108 ∷ 111 ∷ 110 ∷ 103 ∷ 32 ∷ 102 ∷ 111 ∷ 114 ∷ 32 ∷ 116 ∷ 104 ∷ 105 ∷ 115 ∷ 32 ∷ 112 ∷ 114 ∷ 111 ∷ 103 ∷ 114 ∷ 97 ∷ 109 ∷ 10 ∷ []
+
+-- a word and a number after it
+abbrev pub numbered : List ℕ → ℕ → List ℕ
+numbered word n = word ++ decimal n
+
+-- `complete` and the group's three numbers
+abbrev pub completeGroup : Group → List ℕ
+completeGroup g = numbered completeWord (g .n) ++ (numbered space (g .k) ++ numbered space (g .d))
+
+-- and the rest by name; the last number is T
+abbrev pub completeLine : Head → ℕ → List ℕ
+completeLine h letters =
+    completeGroup (h .group)
+    ++ (numbered nodeWord (h .node)
+    ++ (numbered lengthWord (h .group .l)
+    ++ (numbered batchWord (h .batch)
+    ++ (numbered lettersWord letters
+    ++ newLine))))
+
+-- the line of a refusal: 7 is `unfinished`; judging has but 8 besides
+abbrev pub refusedLine : ℕ → List ℕ
+refusedLine number = cond (eqb number 7) unfinishedLine malformedLine
+
+-- the line of a judgment: its number (0 where nothing is refused) and its head
+abbrev pub lineFor : ℕ → Head → List ℕ
+lineFor zero h = completeLine h (nodeLetters (h .group) (h .node))
+lineFor (suc number) h = refusedLine (suc number)
+
+-- The line for these bytes: more than 65,536, whatever they are, are too long; others are judged.
+pub data Line (xs : List ℕ) : List ℕ → Type 0 where
+  long : 65536 < length xs → Line xs tooLongLine
+  judged : (number : ℕ) (h : Head) → length xs ≤ 65536 → Judges xs number h → Line xs (lineFor number h)
+
+-- A text was put at index `at`; the answer is the index after it, and every other byte is as it was.
+pub record Put (before : List ℕ) (at : ℕ) (text : List ℕ) (r : ℕ) (after : List ℕ) : Type 0 where
+  pub room : at ≤ length before
+  pub count : r ≡ at + length text
+  pub holds : after ≡ take at before ++ (text ++ drop (at + length text) before)
+
+-- What the call answers and what the lent buffer then holds: how many bytes the line has; and the line at its start, every other byte as it was.
+pub record Told (xs before : List ℕ) (r : ℕ) (after : List ℕ) : Type 0 where
+  pub text : List ℕ
+  pub line : Line xs text
+  pub count : r ≡ length text
+  pub holds : after ≡ text ++ drop (length text) before

@@ -1,0 +1,77 @@
+// The line that the judge writes for any bytes (docs/SCHEME.md, 13). It is made here and nowhere else, so that every program that writes
+// it writes the same.
+mod text;
+
+use group::Answer;
+use group::Group;
+use heads::Head;
+use share::Judgment;
+ghost use mathlib.Core.Path.{_≡_};
+ghost use Prim.Native.Nat.{_≤_};
+ghost use lib.ListN.{length};
+ghost use Rattle.group.specs.Answers.{ifFine};
+ghost use Rattle.group.specs.Ranges.{nodeRefusal};
+ghost use Rattle.group.specs.Lengths.{nodeLetters};
+ghost use Rattle.io.specs.Counts.{Counts};
+ghost use Rattle.verdict.specs.Line.{Told, Put, completeGroup, completeLine, refusedLine};
+
+// T, the letters of a share with this head; 0 for a head that no share has.
+fn letters(head: Head) -> usize
+    ensures { λ r. ⌜ r ≡ ifFine (nodeRefusal (head .group) (head .node)) (nodeLetters (head .group) (head .node)) 0 ⌝ }
+{
+    match group::packet_letters(head.group, head.node) {
+        Answer::Value(letters) => letters,
+        Answer::Refused(_) => 0,
+    }
+}
+
+// Puts `complete` and the group's three numbers.
+fn put_group(g: Group, line: &mut [u8]) -> usize
+    requires { ⌜ length (now line) ≡ 192 ⌝ }
+    ensures text { λ r. ⌜ Put (now (line .entry)) 0 (completeGroup g) r (now (line .exit)) ⌝ }
+    ensures short { λ r. ⌜ r ≤ 71 ⌝ }
+{
+    let n = text::put_number(line, 0, b"complete ", g.n);
+    let k = text::put_number(line, n, b" ", g.k);
+    text::put_number(line, k, b" ", g.d)
+}
+
+// Puts the line of a share: its group, and the rest by name.
+fn put_complete(head: Head, letters: usize, line: &mut [u8]) -> usize
+    requires { ⌜ length (now line) ≡ 192 ⌝ }
+    ensures { λ r. ⌜ Put (now (line .entry)) 0 (completeLine head letters) r (now (line .exit)) ⌝ }
+{
+    let group = put_group(head.group, line);
+    let node = text::put_number(line, group, b" node ", head.node);
+    let length = text::put_number(line, node, b" length ", head.group.l);
+    let batch = text::put_number(line, length, b" batch ", head.batch as usize);
+    let end = text::put_number(line, batch, b" letters ", letters);
+    text::put(line, end, b"\n")
+}
+
+// Puts the line of a refusal, by its number: `unfinished` for 7; judging has but 8 besides.
+fn put_refused(number: usize, line: &mut [u8]) -> usize
+    requires { ⌜ length (now line) ≡ 192 ⌝ }
+    ensures { λ r. ⌜ Put (now (line .entry)) 0 (refusedLine number) r (now (line .exit)) ⌝ }
+{
+    if number == 7 {
+        text::put(line, 0, b"unfinished\n")
+    } else {
+        text::put(line, 0, b"malformed\n")
+    }
+}
+
+// Puts the line for these bytes at the start of `line`, whose other bytes stay as they were. The answer is how many bytes it has, the end
+// of the line included.
+pub fn line(bytes: &[u8], line: &mut [u8; 192]) -> usize
+    ensures told { λ r. ⌜ Told (now (bytes .entry)) (now (line .entry)) r (now (line .exit)) ⌝ }
+    ensures within { λ r. ⌜ Counts r (now (line .exit)) ⌝ }
+{
+    if 65536 < bytes.len() {
+        return text::put(line, 0, b"too long for this program\n");
+    }
+    match share::judge(bytes) {
+        Judgment::Complete(head) => put_complete(head, letters(head), line),
+        Judgment::Refused(refusal) => put_refused(group::refusal_number(refusal), line),
+    }
+}

@@ -1,0 +1,133 @@
+# What `./run` and the installed programs have in common: what each program is for, and the exit status that a program of
+# this repository has not got of its own (it only writes). It is read by `.`, and whoever reads it says before
+#
+#   called     how a user calls programs here, as './run '; a name comes after it
+#   start      a function that runs the program of the name that it is given, on its own standard input
+#
+# A standard input that is closed is noted and opened at once: whatever is opened next would stand in its place.
+#
+# POSIX sh.
+# shellcheck shell=sh disable=SC2154
+
+closed=''
+(exec 3<&0) 2>/dev/null || { closed=1; exec </dev/null; }
+
+# What a program is for, its arguments, its statuses and an example. Without a name: what there is.
+help_of() {
+    case $1 in
+    judge) cat <<END
+${called}judge [FILE...]
+
+Says of each file what it is, one line each with the file's name before it; without files, of the bytes on standard input,
+with no name:
+
+  complete 3 2 2 node 1 length 1 batch 7 letters 2     a share: n, k, d, the node, L, the batch and its letters
+  unfinished                                           the beginning of a share, but not all of it (no bytes, too)
+  malformed                                            neither
+  too long for this program                            more than 65,536 bytes
+
+Exit status: 0 complete, 1 unfinished, 3 malformed, 4 too long, 5 no judgment, since the input can't be read or the line not
+written, 2 no proved program to run. Of several files the highest. A letter that was flipped on the disk is not noticed.
+
+  ${called}judge examples/complete.share examples/cut.share
+  ${called}judge < examples/complete.share
+END
+        ;;
+    tour) cat <<END
+${called}tour
+
+A whole night in one screen: a batch is spread over six disks, one fills up, two are lost, one is rebuilt from four others,
+and the batch comes back from three. Exit status: 0, or 1 where anything came back other than it was; 2 no proved program
+to run.
+
+  ${called}tour
+END
+        ;;
+    desk) cat <<END
+${called}desk
+
+Runs the worked examples P1 to P12, the limits and the refusals through the library's calls, compares each with what must
+come out and says in the last line how many agreed. Exit status: 0 all, 1 not all, 2 no proved program to run.
+
+  ${called}desk
+END
+        ;;
+    *) return 1 ;;
+    esac
+}
+
+# The status of a line that the judge wrote; an empty one means that it could not read.
+status_of_line() {
+    case $1 in
+    'complete '*) echo 0 ;;
+    unfinished) echo 1 ;;
+    malformed*) echo 3 ;;
+    'too long for this program') echo 4 ;;
+    *) echo 5 ;;
+    esac
+}
+
+# Judges standard input; $1 stands before the line. The status is the line's. The program says itself that it can't read.
+judge_input() {
+    line=$(start judge) || { echo "judge: the program itself failed" >&2; return 2; }
+    [ -n "$line" ] || return 5
+    printf '%s%s\n' "$1" "$line" || return 5
+    return "$(status_of_line "$line")"
+}
+
+# Judges a file, and says what is the matter where it can't be read.
+judge_file() {
+    if [ -d "$1" ]; then
+        echo "judge: $1: is a folder" >&2
+    elif [ ! -e "$1" ]; then
+        echo "judge: $1: there is no such file" >&2
+    elif [ ! -r "$1" ]; then
+        echo "judge: $1: may not be read" >&2
+    else
+        judge_input "$1: " < "$1"
+        return
+    fi
+    return 5
+}
+
+# Judges all files, or standard input where none is named. The highest status counts.
+judge_all() {
+    if [ $# -eq 0 ]; then
+        [ -z "$closed" ] || { echo "judge: standard input is closed" >&2; return 5; }
+        judge_input ''
+        return
+    fi
+    worst=0
+    for file do
+        judge_file "$file" && status=0 || status=$?
+        [ "$status" -le "$worst" ] || worst=$status
+    done
+    return "$worst"
+}
+
+# Writes what a program writes. The status is 0 where the last line ends with these words and no line has a NOT.
+run_and_look() {
+    said=$(start "$1") || { echo "$1: the program itself failed" >&2; return 2; }
+    printf '%s\n' "$said" || return 1
+    case $said in
+    *NOT*) return 1 ;;
+    *"$2") return 0 ;;
+    esac
+    return 1
+}
+
+# Runs a program by name with its arguments, with the status that its help says.
+run_program() {
+    name=$1
+    shift
+    case ${1:-} in
+    --help) help_of "$name"; return ;;
+    --) shift ;;
+    esac
+    case $name in
+    judge) judge_all "$@" ;;
+    tour) run_and_look tour 'It is the batch, letter for letter.' ;;
+    desk) run_and_look desk 'examples agree: all' ;;
+    *) start "$name" "$@" ;;
+    esac
+}
