@@ -4,7 +4,8 @@ use group::Group;
 ghost use Rattle.group.specs.Ranges.{groupRefusal, nodeRefusal};
 ghost use Rattle.group.specs.Lengths.{fileLetters, nodeLetters, repairLetters};
 ghost use Rattle.share.specs.Calls.{shareBytes};
-ghost use Rattle.dulvaspen.specs.Exports.{groupOf, Tells};
+ghost use Rattle.group.specs.Ranges.{groupOf};
+ghost use Rattle.dulvaspen.specs.Exports.{Tells};
 
 // The letters of a file, B*L. Refusals: 1, 2.
 #[no_mangle]
@@ -17,8 +18,7 @@ pub extern "C" fn dulvaspen_file_letters(
 ) -> usize
     ensures { λ r. ⌜ Tells (groupRefusal (groupOf n k d l)) (fileLetters (groupOf n k d l)) (now (letters .entry)) (now (letters .exit)) r ⌝ }
 {
-    let g = Group { n, k, d, l };
-    answers::tell(group::file_letters(g), letters)
+    answers::tell(group::file_letters(Group { n, k, d, l }), letters)
 }
 
 // The letters that a node holds, T. Refusals: 1, 2, 3.

@@ -9,7 +9,8 @@ ghost use Rattle.group.specs.Lengths.{packetStart};
 ghost use Rattle.nodes.specs.Calls.{encodeRefusal, pieceRefusal, entryRefusal, helpRefusal};
 ghost use Rattle.matrix.specs.Matrix.{entryNumber, packets as product};
 ghost use Rattle.matrix.specs.Repair.{helping};
-ghost use Rattle.dulvaspen.specs.Exports.{groupOf, Tells, Fills, Recovers, Repairs};
+ghost use Rattle.group.specs.Ranges.{groupOf};
+ghost use Rattle.dulvaspen.specs.Exports.{Tells, Fills, Recovers, Repairs};
 
 // A node's packets from the file. Refusals: 1, 2, 3, 5 for the file, 6 for the packets.
 #[no_mangle]
@@ -80,8 +81,10 @@ pub extern "C" fn dulvaspen_recover(
 ) -> usize
     ensures { λ r. ⌜ Recovers (groupOf n k d l) (now (ids .entry)) (now (buffer .entry)) (now (buffer .exit)) (now (count .entry)) (now (count .exit)) r ⌝ }
 {
-    let g = Group { n, k, d, l };
-    answers::tell(store::recovery::recover(g, ids, buffer), count)
+    answers::tell(
+        store::recovery::recover(Group { n, k, d, l }, ids, buffer),
+        count,
+    )
 }
 
 // The piece that a helper sends for the lost node. Refusals: 1, 2, 3, 4, 5 for the packets, 6 for the piece.

@@ -8,14 +8,14 @@ use Rattle.share.proofs.reading.judged.Tie as tie
 returns : tie.Need-returns
 returns c = simp (lt-ltb _ _ (c .if1 .taken))
 
-size-for-requires : tie.Need-size-for-requires
-size-for-requires c κs = search needs
+bytes-to-see-requires : tie.Need-bytes-to-see-requires
+bytes-to-see-requires c κs = search needs
 
 returns-2 : tie.Need-returns-2
-returns-2 c = simp (le-ltb _ _ (c .before .before .if1 .left), eq-eqb _ _ (c .if2 .taken ∙ c .before .size-for .ensures))
+returns-2 c = simp (le-ltb _ _ (c .before .before .if1 .left), eq-eqb _ _ (c .if2 .taken ∙ c .before .bytes-to-see .ensures))
 
 returns-3 : tie.Need-returns-3
-returns-3 c = simp (le-ltb _ _ (c .before .before .if1 .left), ne-eqb _ _ (λ e. c .if2 .left (e ∙ sym (c .before .size-for .ensures))))
+returns-3 c = simp (le-ltb _ _ (c .before .before .if1 .left), ne-eqb _ _ (λ e. c .if2 .left (e ∙ sym (c .before .bytes-to-see .ensures))))
 
 pub judged-spec : {M : Type 1} → statement M
-judged-spec = tie.close (tie.spec returns size-for-requires returns-2 returns-3)
+judged-spec = tie.close (tie.spec returns bytes-to-see-requires returns-2 returns-3)
