@@ -11,10 +11,6 @@ use Rattle.store.specs.Repair.{equations}
 use Rattle.store.specs.Counts.{recoveryCount, repairCount}
 use Rattle.store.specs.Calls.{recoverRefusal, repairRefusal}
 
--- the group of these numbers
-abbrev pub groupOf : ℕ → ℕ → ℕ → ℕ → Group
-groupOf n k d l = record { n = n; k = k; d = d; l = l }
-
 -- the call returns the refusal's number, 0 where there is none; then the lent number holds the value, and else what it held
 pub record Tells (refusal value before after r : ℕ) : Type 0 where
   pub returned : r ≡ refusal

@@ -1,10 +1,10 @@
 // Every length that a caller has to lend.
 use crate::answers;
 use group::Group;
-ghost use Rattle.group.specs.Ranges.{groupRefusal, nodeRefusal};
+ghost use Rattle.group.specs.Ranges.{groupOf, groupRefusal, nodeRefusal};
 ghost use Rattle.group.specs.Lengths.{fileLetters, nodeLetters, repairLetters};
 ghost use Rattle.share.specs.Calls.{shareBytes};
-ghost use Rattle.dulvaspen.specs.Exports.{groupOf, Tells};
+ghost use Rattle.dulvaspen.specs.Exports.{Tells};
 
 // The letters of a file, B*L. Refusals: 1, 2.
 #[no_mangle]

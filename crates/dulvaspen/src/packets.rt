@@ -9,7 +9,8 @@ ghost use Rattle.group.specs.Lengths.{packetStart};
 ghost use Rattle.store.specs.Calls.{encodeRefusal, pieceRefusal, entryRefusal, helpRefusal};
 ghost use Rattle.store.specs.Matrix.{entryNumber, packets as product};
 ghost use Rattle.store.specs.Repair.{helping};
-ghost use Rattle.dulvaspen.specs.Exports.{groupOf, Tells, Fills, Recovers, Repairs};
+ghost use Rattle.group.specs.Ranges.{groupOf};
+ghost use Rattle.dulvaspen.specs.Exports.{Tells, Fills, Recovers, Repairs};
 
 // A node's packets from the file. Refusals: 1, 2, 3, 5 for the file, 6 for the packets.
 #[no_mangle]

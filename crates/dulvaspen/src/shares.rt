@@ -7,7 +7,8 @@ ghost use lib.ListN.{length};
 ghost use Rattle.share.specs.Calls.{writeRefusal, headFor};
 ghost use Rattle.heads.specs.Heads.{heads};
 ghost use Rattle.layout.specs.Share.{shareOf};
-ghost use Rattle.dulvaspen.specs.Exports.{groupOf, Fills};
+ghost use Rattle.group.specs.Ranges.{groupOf};
+ghost use Rattle.dulvaspen.specs.Exports.{Fills};
 ghost use Rattle.dulvaspen.specs.Shares.{six, JudgesShare, ReadsShare, Misfits};
 
 // A node's packets as a share. Refusals: 1, 2, 3, 5 for the packets, 6 for the share.
