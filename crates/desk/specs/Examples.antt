@@ -32,20 +32,20 @@ pieces g file lost helpers =
     joined (g .d) (λ u. helping xors g lost (ranked helpers u) u (packets xors g file (ranked helpers u)))
 
 -- what it means that an example holds
-abbrev pub Holds : Example → Type 0
-Holds (Example.packetsOf g file node held) = packets xors g file node ≡ held
-Holds (Example.recovery g file ids buffer count) = (reading xors g file ids ≡ buffer) × (recoveryCost g ids ≡ count)
-Holds (Example.repair g file lost helpers sent) =
+abbrev pub Agrees : Example → Type 0
+Agrees (Example.packetsOf g file node held) = packets xors g file node ≡ held
+Agrees (Example.recovery g file ids buffer count) = (reading xors g file ids ≡ buffer) × (recoveryCost g ids ≡ count)
+Agrees (Example.repair g file lost helpers sent) =
     (pieces g file lost helpers ≡ sent) × (equations xors g lost helpers (packets xors g file lost) ≡ sent)
-Holds (Example.share g file node batch bytes size) =
+Agrees (Example.share g file node batch bytes size) =
     (shareOf heads (headFor g node batch) (packets xors g file node) ≡ bytes) × (length bytes ≡ size)
     × Judges bytes 0 (headFor g node batch)
-Holds (Example.judgment bytes number) = (any : ℕ) → any < 256 → Judges (bytes any) number noHead
+Agrees (Example.judgment bytes number) = (any : ℕ) → any < 256 → Judges (bytes any) number noHead
 
 -- all of a list do
 unfoldable pub AllHold : List Example → Type 0
 AllHold [] = Unit {0}
-AllHold (example ∷ examples) = Holds example × AllHold examples
+AllHold (example ∷ examples) = Agrees example × AllHold examples
 
 -- [3,2,2], L = 2, and its file
 abbrev pub two : Group

@@ -8,6 +8,10 @@ use Rattle.letters.specs.Places.{both}
 use Rattle.group.specs.declared.Group.{Group}
 use Rattle.group.specs.Answers.{unless, first}
 
+-- the group of these numbers
+abbrev pub groupOf : ℕ → ℕ → ℕ → ℕ → Group
+groupOf n k d l = record { n = n; k = k; d = d; l = l }
+
 -- x is one of lo..hi
 abbrev pub between : ℕ → ℕ → ℕ → Bool
 between lo hi x = both (leb lo x) (leb x hi)
@@ -37,10 +41,6 @@ mostLetters = mostPackets * longestPacket
 -- no file has more sequences; the exact most is less
 abbrev pub mostSequences : ℕ
 mostSequences = mostPackets * mostPackets
-
--- the group of these numbers
-abbrev pub groupOf : ℕ → ℕ → ℕ → ℕ → Group
-groupOf n k d l = record { n = n; k = k; d = d; l = l }
 
 -- n is 3 to 16, and 2 <= k <= d <= n-1
 unfoldable pub numbersInRange : Group → Bool

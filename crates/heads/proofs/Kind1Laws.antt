@@ -12,7 +12,7 @@ use lib.Seq.{getD-at}
 use borrow.Author.Tests.{eqb-true, eq-eqb, ne-eqb}
 use Rattle.letters.proofs.Cases.{le-or-lt, eq-or-ne}
 use Rattle.group.specs.Answers.{ifFine}
-use Rattle.group.specs.Ranges.{between, longest, nodeRefusal, NodeOf}
+use Rattle.group.specs.Ranges.{groupOf, between, longest, nodeRefusal, NodeOf}
 use Rattle.group.specs.Lengths.{nodeLetters}
 use Rattle.group.proofs.InRange.{between-true, true-between, node-of, of-node}
 use Rattle.group.proofs.Sizes.{node-at-most}
@@ -95,7 +95,7 @@ told : (h : Head) → Kind1Numbers h → (rest : List ℕ) → kind1In (kind1Rec
 unfolding kind1In
 told h w rest =
     ap₂
-    (λ l batch. record { group = record { n = h .group .n; k = h .group .k; d = h .group .d; l = l }; node = h .node; batch = batch })
+    (λ l batch. record { group = groupOf (h .group .n) (h .group .k) (h .group .d) l; node = h .node; batch = batch })
     (pair-back (h .group .l) (omega (arith, w .node .group)))
     (four-back (h .batch) (w .batch))
 

@@ -5,7 +5,7 @@ use Prim.Native.Nat.{ℕ, _+_, _-_, _^_, _<_}
 use lib.Dec.{eqb}
 use lib.ListN.{getD}
 use Rattle.group.specs.Answers.{ifFine}
-use Rattle.group.specs.Ranges.{between, longest, nodeRefusal, NodeOf}
+use Rattle.group.specs.Ranges.{groupOf, between, longest, nodeRefusal, NodeOf}
 use Rattle.group.specs.Lengths.{nodeLetters}
 use Rattle.records.specs.Records.{number, pair, four}
 use Rattle.layout.specs.Layout.{Layout}
@@ -39,13 +39,7 @@ kind1Total h = ifFine (nodeRefusal (h .group) (h .node)) (nodeLetters (h .group)
 unfoldable pub kind1In : List ℕ → Head
 kind1In xs =
     record {
-      group =
-          record {
-            n = getD xs 1 0;
-            k = getD xs 2 0;
-            d = getD xs 3 0;
-            l = pair (getD xs 5 0) (getD xs 6 0);
-          };
+      group = groupOf (getD xs 1 0) (getD xs 2 0) (getD xs 3 0) (pair (getD xs 5 0) (getD xs 6 0));
       node = getD xs 4 0;
       batch = four (getD xs 7 0) (getD xs 8 0) (getD xs 9 0) (getD xs 10 0);
     }

@@ -6,7 +6,7 @@ use lib.ListN.{length}
 use Rattle.group.specs.declared.Group.{Group}
 use Rattle.group.specs.declared.Answer.{Answer}
 use Rattle.group.specs.Answers.{refusalNumber, first, ifFine, Answers}
-use Rattle.group.specs.Ranges.{nodeRefusal, inputRefusal, outputRefusal}
+use Rattle.group.specs.Ranges.{groupOf, nodeRefusal, inputRefusal, outputRefusal}
 use Rattle.group.specs.Lengths.{nodeLetters}
 use Rattle.records.specs.Records.{sizeFor}
 use Rattle.layout.specs.Share.{shareOf, ShareOf}
@@ -23,7 +23,7 @@ judgmentNumber (Judgment.Refused r) = refusalNumber r
 
 -- its values, the head's numbers; a refusal carries zeros
 abbrev pub noHead : Head
-noHead = record { group = record { n = 0; k = 0; d = 0; l = 0 }; node = 0; batch = 0 }
+noHead = record { group = groupOf 0 0 0 0; node = 0; batch = 0 }
 
 abbrev pub headOf : Judgment → Head
 headOf (Judgment.Complete h) = h

@@ -3,6 +3,7 @@ use mathlib.Core.Path.{_≡_, ap₂, _∙_}
 use mathlib.Core.List.{List}
 use Prim.Native.Nat.{ℕ}
 use lib.ListN.{getD}
+use Rattle.group.specs.Ranges.{groupOf}
 use Rattle.records.specs.Records.{pair, four}
 use Rattle.heads.specs.Kind1.{kind1In}
 use borrow.Author.Needs.{needs}
@@ -13,7 +14,7 @@ use Rattle.heads.proofs.kind1.head_in.Tie as tie
 read :
     (xs : List ℕ) (n k d i l batch : ℕ) → n ≡ getD xs 1 0 → k ≡ getD xs 2 0 → d ≡ getD xs 3 0 → i ≡ getD xs 4 0
     → l ≡ pair (getD xs 5 0) (getD xs 6 0) → batch ≡ four (getD xs 7 0) (getD xs 8 0) (getD xs 9 0) (getD xs 10 0)
-    → record { group = record { n = n; k = k; d = d; l = l }; node = i; batch = batch } ≡ kind1In xs
+    → record { group = groupOf n k d l; node = i; batch = batch } ≡ kind1In xs
 unfolding kind1In
 read xs n k d i l batch en ek ed ei el eb = rw (en, ek, ed, ei, el, eb)
 
