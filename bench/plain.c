@@ -166,7 +166,7 @@ static uint64_t judge_head(const uint8_t *share, uint64_t len, group *g, uint64_
     return len < 11 ? 7 : 0;
 }
 
-/* 0, 7 or 8, by document 01: letters may be any, so of a full block only the kind is looked at. */
+/* 0, 7 or 8, by document 01 (docs/SCHEME.md, 9): letters may be any, so of a full block only the kind is looked at. */
 uint64_t plain_judge(const uint8_t *share, uint64_t share_len, uint64_t *head) {
     group g;
     uint64_t node, r = judge_head(share, share_len, &g, &node);

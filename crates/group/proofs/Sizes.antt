@@ -46,7 +46,7 @@ module _ (g : Group) (i : ℕ) (r : NodeOf g i) where
   unfolding nodeLetters
   node-at-most = mul-le-mul {n₂ = mostPackets} {m₂ = longestPacket} (omega arith) packet-at-most
 
-  -- document 01: T is at most 64,590
+  -- document 01 (docs/SCHEME.md, 4): T is at most 64,590
   pub most-letters : nodeLetters g i ≤ 64590
   most-letters = node-at-most
 

@@ -1,4 +1,4 @@
--- Document 01's number for each refusal, and what an answer's number and value are.
+-- Each refusal's number in document 01 (docs/SCHEME.md, 11), and what an answer's number and value are.
 use mathlib.Core.Path.{_≡_}
 use mathlib.Core.Bool.{Bool, true, false}
 use Prim.Native.Nat.{ℕ, zero, suc}

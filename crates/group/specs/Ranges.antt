@@ -1,4 +1,4 @@
--- The ranges of document 01's "Group numbers and letters", and the refusals that follow from them.
+-- The ranges of document 01's "Group numbers and letters" (docs/SCHEME.md, 1), and the refusals that follow from them.
 use mathlib.Core.Bool.{Bool, true, false}
 use mathlib.Core.List.{List, [], _∷_}
 use Prim.Native.Nat.{ℕ, _-_, _+_, _*_, _≤_}

@@ -23,7 +23,7 @@ pub fn of(n: usize, k: usize, d: usize, l: usize) -> Group
     Group { n, k, d, l }
 }
 
-// Why a call is turned down. `refusalNumber` in specs/ gives document 01's number for each.
+// Why a call is turned down. `refusalNumber` in specs/ gives the number of document 01 (docs/SCHEME.md, 11) for each.
 pub enum Refusal {
     // 1: n, k or d is outside its range.
     Numbers,
@@ -55,7 +55,7 @@ pub enum Answer {
     Refused(Refusal),
 }
 
-// A refusal's number in document 01's table.
+// A refusal's number in the table of document 01 (docs/SCHEME.md, 11).
 pub fn refusal_number(refusal: Refusal) -> usize
     ensures { λ r. ⌜ r ≡ refusalNumber refusal ⌝ }
 {

@@ -1,4 +1,4 @@
--- Document 01's head, kind 1: what its bytes are, which numbers they may have, and which of them tests what.
+-- The head of document 01 (docs/SCHEME.md, 9), kind 1: what its bytes are, which numbers they may have, and which of them tests what.
 use mathlib.Core.Bool.{Bool, true}
 use mathlib.Core.List.{List, [], _∷_, _++_}
 use Prim.Native.Nat.{ℕ, _+_, _-_, _^_, _<_}

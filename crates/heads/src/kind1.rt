@@ -1,4 +1,4 @@
-// Document 01's head, kind 1. All that the code knows of its bytes stands here.
+// The head of document 01 (docs/SCHEME.md, 9), kind 1. All that the code knows of its bytes stands here.
 use crate::Head;
 use group::Answer;
 use group::Group;

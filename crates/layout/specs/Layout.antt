@@ -8,7 +8,7 @@ use lib.ListN.{getD}
 pub record Layout (Head : Type 0) : Type 1 where
   -- the head: its kind and its numbers, as bytes
   pub headRecord : Head → List ℕ
-  -- its numbers are in the ranges that document 01 gives
+  -- its numbers are in the ranges that document 01 gives (docs/SCHEME.md, 1)
   pub Allowed : Head → Type 0
   -- T, the letters of a share with this head
   pub total : Head → ℕ

@@ -1,4 +1,4 @@
--- The share of document 01: a head, the letters in blocks, and an end.
+-- The share of document 01 (docs/SCHEME.md, 9): a head, the letters in blocks, and an end.
 use mathlib.Core.Path.{_≡_}
 use mathlib.Core.List.{List, _++_}
 use Prim.Native.Nat.{ℕ, _<_}

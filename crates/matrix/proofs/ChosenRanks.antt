@@ -1,4 +1,4 @@
--- Chosen ids are ranks that the solver can take under document 01's rule, so rows of their shifts are what it wants.
+-- Chosen ids are ranks that the solver can take under the rule of document 01 (docs/SCHEME.md, 2), so rows of their shifts are what it wants.
 use mathlib.Core.Path.{_≡_}
 use mathlib.Core.List.{List}
 use Prim.Native.Nat.{ℕ, _+_, _-_, _≤_}

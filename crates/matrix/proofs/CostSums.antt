@@ -1,4 +1,4 @@
--- The counts are document 01's sums: each addition counts as one today, and a run that is moved by m reaches L - m letters.
+-- The counts are the sums of document 01 (docs/SCHEME.md, 8): each addition counts as one today, and a run that is moved by m reaches L - m letters.
 use mathlib.Core.Path.{_≡_, ap, ap₂, _∙_}
 use mathlib.Core.List.{List}
 use Prim.Native.Nat.{ℕ, _+_, _-_, _≤_, min}

@@ -1,4 +1,4 @@
--- Document 01's "Counts": what the terms of its sums are worth, and the sums themselves.
+-- Document 01's "Counts" (docs/SCHEME.md, 8): what the terms of its sums are worth, and the sums themselves.
 use mathlib.Core.List.{List}
 use Prim.Native.Nat.{ℕ, _+_, _-_, min}
 use Rattle.letters.specs.Algebra.{xors, counts, sum}
@@ -33,7 +33,7 @@ recoveryCount g ids file =
     sum counts (g .d) (λ u. additions (min u (g .k)) (g .l) (ruled t (ranked ids)) (λ a. matrix xors g file a u))
     + sum counts (g .d - 1) (λ u. sum counts (min u (g .k)) (λ v. sum counts v (λ w. takingOut g ids file (u + 1) v w)))
 
--- the number of those terms, as document 01 has it
+-- the number of those terms, as document 01 has it (docs/SCHEME.md, 8)
 unfoldable pub recoveryCost : Group → List ℕ → ℕ
 unfolding sum cost ranked t
 recoveryCost g ids =

@@ -1,4 +1,4 @@
--- Document 01's matrix, packets, pieces, repair and counts.
+-- The matrix, packets, pieces, repair and counts of document 01 (docs/SCHEME.md, 3 to 8).
 pub mod Matrix
 pub mod Pieces
 pub mod Repair

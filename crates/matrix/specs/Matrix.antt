@@ -1,4 +1,4 @@
--- The file's sequences, the symmetric matrix with its zero corner, and a node's packets: document 01's "File, matrix, packets".
+-- The file's sequences, the symmetric matrix with its zero corner, and a node's packets: document 01's "File, matrix, packets" (docs/SCHEME.md, 3 and 4).
 use mathlib.Core.Bool.{cond}
 use mathlib.Core.List.{List}
 use Prim.Native.Nat.{ℕ, _+_, _-_, _*_, _/_, _≤_, min, max}

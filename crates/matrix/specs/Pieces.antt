@@ -1,4 +1,4 @@
--- The pieces that k nodes send, and the collector's buffer: document 01's "Reading k nodes and recovery".
+-- The pieces that k nodes send, and the collector's buffer: document 01's "Reading k nodes and recovery" (docs/SCHEME.md, 5).
 use mathlib.Core.Path.{_≡_}
 use mathlib.Core.List.{List}
 use Prim.Native.Nat.{ℕ, _+_, _≤_}

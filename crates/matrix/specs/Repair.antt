@@ -1,4 +1,4 @@
--- A lost node rebuilt from d helpers: document 01's "Repair".
+-- A lost node rebuilt from d helpers: document 01's "Repair" (docs/SCHEME.md, 7).
 use mathlib.Core.List.{List}
 use Prim.Native.Nat.{ℕ, _+_}
 use Rattle.letters.specs.Algebra.{Adding}

@@ -1,4 +1,4 @@
--- What the columns are worth, one after another, is document 01's two sums over the file that comes out.
+-- What the columns are worth, one after another, is the two sums of document 01 (docs/SCHEME.md, 8) over the file that comes out.
 use mathlib.Core.Path.{_≡_, refl, sym, ap, ap₂, _∙_}
 use mathlib.Core.List.{List}
 use Prim.Native.Nat.{ℕ, _+_, _-_, _≤_, min}

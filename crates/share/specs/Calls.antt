@@ -1,4 +1,4 @@
--- What the calls promise, in document 01's numbers.
+-- What the calls promise, in the numbers of document 01 (docs/SCHEME.md, 11).
 use mathlib.Core.Path.{_≡_}
 use mathlib.Core.List.{List}
 use Prim.Native.Nat.{ℕ}

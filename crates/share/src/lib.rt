@@ -16,7 +16,7 @@ ghost use Rattle.group.specs.Answers.{Answers};
 ghost use Rattle.group.specs.Ranges.{nodeRefusal};
 ghost use Rattle.share.specs.Calls.{Judges, Reads, Written, judgmentNumber, headOf, headFor, shareBytes};
 
-// What bytes are found to be. `judgmentNumber` and `headOf` in specs/ give document 01's number and values for each case.
+// What bytes are found to be. `judgmentNumber` and `headOf` in specs/ give the number and values of document 01 (docs/SCHEME.md, 11) for each case.
 pub enum Judgment {
     // A share, and its head.
     Complete(Head),

@@ -1,4 +1,4 @@
--- Document 01's rule has refined increasing differences: a step of one column is worth i - 1 places at node i.
+-- The rule of document 01 (docs/SCHEME.md, 2) has refined increasing differences: a step of one column is worth i - 1 places at node i.
 use mathlib.Core.Path.{_≡_, sym, subst}
 use mathlib.Core.Logic.{⊎-elim}
 use Prim.Native.Nat.{ℕ, _+_, _-_, _*_, _≤_, _<_}

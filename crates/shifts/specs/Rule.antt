@@ -6,11 +6,11 @@ use Prim.Native.Nat.{ℕ, _+_, _-_, _*_, _≤_, _<_}
 abbrev pub ShiftRule : Type 0
 ShiftRule = ℕ → ℕ → ℕ
 
--- Document 01's rule: t(i,j) = (i-1)(j-1).
+-- The rule of document 01 (docs/SCHEME.md, 2): t(i,j) = (i-1)(j-1).
 unfoldable pub t : ShiftRule
 t i j = (i - 1) * (j - 1)
 
--- Refined increasing differences, (4) of document 000: for i < i' and j < j',
+-- Refined increasing differences, (4) of paper [000] (docs/SCHEME.md, 15): for i < i' and j < j',
 --     0 <= t(i,j') - t(i,j) < t(i',j') - t(i',j),
 -- where the first is an equality only at node 1. The differences are written as sums, since these are natural numbers.
 pub record Refined (t : ShiftRule) : Type 0 where

@@ -1,4 +1,4 @@
--- The demands of document 00 as theorems about what the calls' contracts say, in its order.
+-- The three demands (README, "What is proved") as theorems about what the calls' contracts say, in their order.
 use mathlib.Core.Path.{_≡_, refl, sym, ap, ap₂, _∙_}
 use mathlib.Core.Bool.{Bool, true, false, cond}
 use mathlib.Core.List.{List}
@@ -167,7 +167,7 @@ module _ (g : Group) (ids : List ℕ) (chosen : Chosen g (g .k) ids) where
             ∙ getD-run (g .l) (pieceLetter xors g file ids v u) 0 (p - 1) (omega arith)
             ∙ ap (pieceLetter xors g file ids v u) (back p lp)
 
--- read, then recover: the buffer at exit is the file, and the answer is document 01's sum
+-- read, then recover: the buffer at exit is the file, and the answer is the sum of document 01 (docs/SCHEME.md, 8)
 pub read-then-recover :
     (g : Group) (ids file : List ℕ) (held : ℕ → List ℕ) (buffer after : List ℕ) (r : Answer) → readersRefusal g ids ≡ 0
     → length file ≡ fileLetters g → ((v : ℕ) → 1 ≤ v → v ≤ g .k → held v ≡ packets xors g file (ranked ids v))
@@ -207,7 +207,7 @@ encode-xored g node file file′ room room′ room″ held held′ held″ r r�
 
 -- ---- demand 3: any d nodes rebuild a lost one
 
--- d nodes that hold the file's packets, help of each, then repair: the buffer at exit is the lost node's packets, and the answer is document 01's sum
+-- d nodes that hold the file's packets, help of each, then repair: the buffer at exit is the lost node's packets, and the answer is the sum of document 01 (docs/SCHEME.md, 8)
 pub help-then-repair :
     (g : Group) (f : ℕ) (helpers file : List ℕ) (held : ℕ → List ℕ) (after : List ℕ) (r : Answer)
     → ((u : ℕ) → 1 ≤ u → u ≤ g .d → held u ≡ packets xors g file (ranked helpers u)) → Rebuilds g f helpers held after r

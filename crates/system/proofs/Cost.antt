@@ -1,4 +1,4 @@
--- The additions are document 01's cost: for two ranks, the equations whose letter lies inside 1..n are all but as many as the two shifts lie apart.
+-- The additions are the cost of document 01 (docs/SCHEME.md, 8): for two ranks, the equations whose letter lies inside 1..n are all but as many as the two shifts lie apart.
 use mathlib.Core.Path.{_≡_, refl, ap, _∙_}
 use mathlib.Core.Bool.{Bool, true, false, cond}
 use mathlib.Core.Logic.{⊎-elim}

@@ -1,4 +1,4 @@
--- What solving costs: the letter additions, counted one by one and as document 01's sum.
+-- What solving costs: the letter additions, counted one by one and as the sum of document 01 (docs/SCHEME.md, 8).
 use mathlib.Core.Bool.{cond}
 use Prim.Native.Nat.{ℕ, _+_, _-_}
 use lib.Dec.{eqb}
@@ -41,7 +41,7 @@ pairs s n t = sum counts s (λ b. sum counts n (λ p. sum counts s (λ a. other 
 abbrev pub distance : ℕ → ℕ → ℕ
 distance x y = (x - y) + (y - x)
 
--- Document 01's cost: the sum over ordered pairs a, b from 1..s with a not b of max(0, n - |t(b,a) - t(b,b)|).
+-- The cost of document 01 (docs/SCHEME.md, 8): the sum over ordered pairs a, b from 1..s with a not b of max(0, n - |t(b,a) - t(b,b)|).
 unfoldable pub cost : ℕ → ℕ → (ℕ → ℕ → ℕ) → ℕ
 unfolding sum
 cost s n t = sum counts s (λ b. sum counts s (λ a. other a b (n - distance (t b a) (t b b))))
