@@ -1,15 +1,20 @@
 #!/usr/bin/env python3
-"""What crates/share_runs writes, worked out from document 01 alone (docs/SCHEME.md, 1 and 9), without the store's code.
+"""The script that crates/share_runs runs and what it must write, worked out from document 01 alone, without the store's
+code. From the root of the repository this makes both files again, crates/share_runs/stdin and stdout:
 
-Make the expected output again, from the root of the repository:
-
-    python3 tools/share_model.py > crates/share_runs/stdout
+    tools/share_model.py
 
 A share is a list of what may stand at each index: one byte, or any byte where a letter stands. Bytes are a share if they
-are as many and each may stand there; they are the beginning of one if some head of its ranges, whose own bytes
+are as many and each may stand there; they are the beginning of one if some head of document 01's ranges, whose own bytes
 begin with theirs, has a share that they are fewer than and may stand in. Every head is tried, by listing all of them.
+tools/script.py has the memories.
 """
+import sys
 
+sys.dont_write_bytecode = True
+from script import NONE, Chooser, Script
+
+SCRIPT = Script(70000)
 ANY = range(256)
 
 
@@ -35,7 +40,7 @@ def records_after_head(letters):
     return may + [[byte] for byte in [4] + number(letters, 4)]
 
 
-# every head of the ranges but for its batch, which may be any: what stands before L, and L itself
+# every head of document 01's ranges but for its batch, which may be any: what stands before L, and L itself
 STARTS = [(1, n, k, d, node) for n in range(3, 17) for d in range(2, n) for k in range(2, d + 1) for node in range(1, n + 1)
           if in_range(n, k, d)]
 START_PREFIXES = {start[:count] for start in STARTS for count in range(6)}
@@ -84,18 +89,8 @@ def share(n, k, d, node, length, batch, letters):
     return data + [4] + number(len(letters), 4)
 
 
-def stands_for(data):
-    value = 0
-    for byte in data:
-        value = (value * 31 + byte + 1) % 65536
-    return value
-
-
-def told(judgment):
-    found, head = judgment
-    if found:
-        return str(found)
-    return "0 of {} {} {} node {} length {} batch {}".format(*head)
+def share_size(letters):
+    return 11 + (letters + 63) // 64 * 65 + 5
 
 
 def refusal(n, k, d, node, length):
@@ -108,41 +103,213 @@ def refusal(n, k, d, node, length):
     return 0
 
 
-def case(n, k, d, node, length, batch):
-    refused = refusal(n, k, d, node, length)
-    line = f"share {n} {k} {d} {node} {length}"
-    if refused:
-        # no letters and no bytes are lent, or one byte; the refusal comes before any length
-        read = told(judge([]))
-        return f"{line} letters 0 input {refused} output {refused} write {refused} sum 0 read {read} letters 0 room {read}"
-    count = total(d, node, length)
-    letters = [i % 251 for i in range(count)]
-    data = share(n, k, d, node, length, batch, letters)
-    line += f" letters {count} input 5 output 6 write 0 value {len(data)} sum {stands_for(data)}"
-    line += f" judged {judge(data)[0]} cut {judge(data[:-1])[0]} more {judge(data + [0])[0]}"
-    return line + f" read {told(judge(data))} letters {stands_for(letters_of(data))} room 6"
+# the calls: each makes its line, and leaves in B what document 01 says. A head is n, k, d, node, L and the batch number
+
+
+def named(head):
+    n, k, d, node, length, batch = head
+    return f" [{n},{k},{d}] L {length} node {node}"
+
+
+def size(head):
+    number = refusal(*head[:5])
+    value = 0 if number else share_size(total(*head[2:5]))
+    SCRIPT.line(22, "bytes", NONE, NONE, named(head), f": {number} value {value}")
+
+
+def write(a, b, head):
+    letters, out = list(SCRIPT.in_a(a)), SCRIPT.in_b(b)
+    number, value = refusal(*head[:5]), 0
+    if not number and len(letters) != total(*head[2:5]):
+        number = 5
+    if not number and len(out) != share_size(len(letters)):
+        number = 6
+    if not number:
+        value = len(out)
+        SCRIPT.into_b(b, share(*head, letters))
+    SCRIPT.line(21, "write", a, b, f"{named(head)} batch {head[5]}", f": {number} value {value}")
+
+
+def told(number, head):
+    return f": {number}" if number else ": 0 of {} {} {} node {} length {} batch {}".format(*head)
+
+
+def judged(a):
+    SCRIPT.line(23, "judge", a, NONE, "", told(*judge(SCRIPT.in_a(a))))
+
+
+def read(a, b):
+    data, out = SCRIPT.in_a(a), SCRIPT.in_b(b)
+    number, head = judge(data)
+    if not number and len(out) != total(*head[2:5]):
+        number = 6
+    if not number:
+        SCRIPT.into_b(b, letters_of(list(data)))
+    SCRIPT.line(24, "read", a, b, "", told(number, head))
+
+
+def sweep(b, at):
+    """A digit for each byte that could stand at an index."""
+    data = bytearray(SCRIPT.in_b(b))
+    found = []
+    for byte in range(256):
+        data[at] = byte
+        found.append(str(judge(data)[0]))
+    SCRIPT.line(25, "sweep", NONE, b, f" at {at}", ": " + "".join(found))
+
+
+# what is run
+
+
+def made(head, seed):
+    """A share at the start of both memories, its letters those of the generator. The answer is how many it has, and how many bytes."""
+    count = total(*head[2:5])
+    SCRIPT.fill((0, count), NONE, seed)
+    write((0, count), (0, share_size(count)), head)
+    SCRIPT.keep((0, share_size(count)), (0, share_size(count)))
+    return count, share_size(count)
 
 
 def desk():
-    data = share(3, 2, 2, 1, 1, 7, [0x11, 0x50])
-    print(f"P9 0 value {len(data)} {bytes(data).hex()} read {told(judge(data))} {bytes(letters_of(data)).hex()}")
-    print(f"P10 {judge(data[:80])[0]}\nP11 {judge(data + [0])[0]}\nP12 {judge([])[0]}")
-    print("prefixes " + "".join(str(judge(data[:count])[0]) for count in range(len(data) + 1)))
-    for place in list(range(11)) + list(range(76, 81)):
-        found = [judge(data[:place] + [byte] + data[place + 1:])[0] for byte in range(256) if byte != data[place]]
-        print(f"place {place} complete {found.count(0)} unfinished {found.count(7)} malformed {found.count(8)}")
+    SCRIPT.heading("The desk's share, its bytes, and it read back")
+    head = (3, 2, 2, 1, 1, 7)
+    SCRIPT.put((0, 2), NONE, [0x11, 0x50])
+    size(head)
+    write((0, 2), (0, 81), head)
+    SCRIPT.show(NONE, (0, 81))
+    SCRIPT.keep((0, 82), (0, 82))
+    read((0, 81), (100, 2))
+    SCRIPT.show(NONE, (100, 2))
+    SCRIPT.heading("Its first bytes, from none to all, and one more")
+    for count in range(83):
+        judged((0, count))
+    SCRIPT.heading("Each of its bytes as each other byte")
+    for at in range(81):
+        sweep((0, 81), at)
+    SCRIPT.heading("The same in its beginnings")
+    for count in (1, 2, 3, 4, 5, 6, 7, 11, 12, 15, 77, 80):
+        sweep((0, count), count - 1)
+    for at in range(7):
+        sweep((0, 14), at)
 
 
-CASES = [
-    (3, 2, 2, 1, 1, 0), (3, 2, 2, 3, 1, 4294967295), (16, 2, 2, 1, 5, 16909060), (16, 2, 2, 16, 5, 256),
-    (16, 2, 15, 16, 5, 65536), (16, 15, 15, 16, 5, 16777216), (16, 15, 15, 1, 5, 255),
-    (3, 2, 2, 1, 4096, 1), (16, 15, 15, 16, 4096, 1), (16, 15, 15, 1, 4096, 1), (3, 2, 2, 1, 32, 1),
-    (4, 2, 3, 1, 43, 1), (4, 2, 3, 1, 21, 1), (4, 2, 3, 1, 64, 1), (4, 2, 3, 1, 107, 1), (4, 2, 3, 1, 85, 1),
-    (2, 2, 2, 1, 1, 1), (17, 2, 2, 1, 1, 1), (3, 1, 2, 1, 1, 1), (4, 3, 2, 1, 1, 1), (3, 2, 3, 1, 1, 1),
-    (3, 2, 2, 1, 0, 1), (3, 2, 2, 1, 4097, 1), (3, 2, 2, 0, 1, 1), (3, 2, 2, 4, 1, 1),
+LIMITS = [
+    (3, 2, 2, 1, 1, 0), (3, 2, 2, 3, 1, 4294967295), (16, 2, 2, 1, 5, 16909060), (16, 2, 2, 16, 5, 256), (16, 2, 15, 16, 5, 65536),
+    (16, 15, 15, 16, 5, 16777216), (16, 15, 15, 1, 5, 255), (3, 2, 2, 1, 4096, 1), (16, 15, 15, 16, 4096, 1), (16, 15, 15, 1, 4096, 1),
+    # T's remainder by 64 is 0, 1 and 63, with one block and with several
+    (3, 2, 2, 1, 32, 1), (4, 2, 3, 1, 43, 1), (4, 2, 3, 1, 21, 1), (4, 2, 3, 1, 64, 1), (4, 2, 3, 1, 107, 1), (4, 2, 3, 1, 85, 1),
 ]
 
-if __name__ == "__main__":
+
+def limits():
+    SCRIPT.heading("Shares at the limits: each length right, one less, one more; cut, and lengthened")
+    for seed, head in enumerate(LIMITS, 1):
+        count = total(*head[2:5])
+        whole, part = share_size(count), (0, share_size(count))
+        size(head)
+        SCRIPT.fill((0, whole + 1), (0, whole + 1), seed)
+        for letters, out in ((count - 1, whole), (count + 1, whole), (count, whole - 1), (count, whole + 1), (count + 1, whole + 1), (0, 0), (count, whole)):
+            write((0, letters), (0, out), head)
+        SCRIPT.keep(part, part)
+        for length in (whole, whole - 1, whole - 5, whole + 1):
+            judged((0, length))
+        SCRIPT.fill(NONE, (0, count + 1), seed + 100)
+        for length, room in ((whole, count + 1), (whole, count - 1), (whole, 0), (whole - 1, count), (whole - 1, count + 1), (whole + 1, count), (whole, count)):
+            read((0, length), (0, room))
+
+
+OUTSIDE = [
+    (2, 2, 2, 1, 1, 1), (17, 2, 2, 1, 1, 1), (3, 1, 2, 1, 1, 1), (4, 3, 2, 1, 1, 1), (3, 2, 3, 1, 1, 1), (3, 2, 2, 1, 0, 1), (3, 2, 2, 1, 4097, 1),
+    (3, 2, 2, 0, 1, 1), (3, 2, 2, 4, 1, 1), (2, 2, 2, 0, 0, 1), (3, 2, 2, 0, 0, 1), (3, 2, 2, 17, 4097, 1), (0, 0, 0, 0, 0, 0),
+]
+
+
+def outside():
+    SCRIPT.heading("Numbers outside their ranges, alone and together")
+    SCRIPT.fill((0, 90), (0, 90), 9)
+    for head in OUTSIDE:
+        size(head)
+        for letters, out in ((2, 81), (1, 81), (2, 80), (0, 0)):
+            write((0, letters), (0, out), head)
+
+
+def sweeps():
+    SCRIPT.heading("A share of a full block and a last one, each kind of byte as each other byte")
+    count, whole = made((4, 2, 3, 1, 26, 258), 3)
+    blocks = [11, 12, 75, 76, 77, 90, 91, 140]
+    for at in list(range(11)) + blocks + list(range(whole - 5, whole)):
+        sweep((0, whole), at)
+    for at in (1, 4, 5, 6, 11, 76, 91):
+        sweep((0, 95), at)
+    SCRIPT.heading("A share of a full block alone")
+    count, whole = made((3, 2, 2, 1, 32, 1), 4)
+    for at in list(range(11)) + [11, 12, 75, 76, 77, 78, 79, 80]:
+        sweep((0, whole), at)
+    SCRIPT.heading("The beginning of a large one")
+    made((16, 15, 15, 16, 4096, 4294967295), 5)
+    for at in list(range(12)) + [76]:
+        sweep((0, 100), at)
+
+
+def damaged(chooser, whole):
+    """One damage to the share in A: a byte changed, most often where it matters, and put back after it was judged and read."""
+    blocks = (whole - 16) // 65
+    near_kinds = 11 + 65 * chooser.within(0, blocks) + chooser.within(0, 4)
+    at = chooser.one_of([chooser.within(0, 10), near_kinds, whole - 1 - chooser.within(0, 70), chooser.within(0, whole - 1)])
+    at = max(0, min(whole - 1, at))
+    own = SCRIPT.a[at]
+    SCRIPT.put((at, 1), NONE, [chooser.one_of([0, 1, 2, 3, 4, own ^ 1, own ^ 128, chooser.within(0, 255)])])
+    return at, own
+
+
+def damages():
+    chooser = Chooser(81)
+    for _ in range(24):
+        n = chooser.within(3, 16)
+        d = chooser.within(2, n - 1)
+        length = chooser.one_of([1, 2, 5, 9, 16, 31, 33, 64])
+        head = (n, chooser.within(2, d), d, chooser.within(1, n), length, chooser.within(0, 32767) * 131071)
+        SCRIPT.heading("A share of the generator, damaged a byte at a time, cut and lengthened")
+        count, whole = made(head, chooser.x)
+        read((0, whole), (0, count))
+        for _ in range(8):
+            at, own = damaged(chooser, whole)
+            judged((0, whole))
+            judged((0, chooser.within(at, whole)))
+            SCRIPT.put((at, 1), NONE, [own])
+        for _ in range(2):
+            at, own = damaged(chooser, whole)
+            read((0, chooser.within(whole - 1, whole + 1)), (0, count))
+            SCRIPT.put((at, 1), NONE, [own])
+        for _ in range(4):
+            judged((0, chooser.within(0, whole)))
+        lost = chooser.within(1, whole - 2)
+        SCRIPT.fill(NONE, (0, count), chooser.x)
+        SCRIPT.take((lost + 1, whole - lost - 1), (1000, whole - lost - 1))
+        SCRIPT.keep((lost, whole - lost - 1), (1000, whole - lost - 1))
+        judged((0, whole - 1))
+        read((0, whole), (0, count))
+
+
+def heads():
+    SCRIPT.heading("Heads of the generator, most of them with a number outside its range")
+    chooser = Chooser(11)
+    for _ in range(250):
+        n = chooser.within(2, 17)
+        d = chooser.within(1, n)
+        data = [1, n, chooser.within(1, d), d, chooser.within(0, n + 1), chooser.one_of([0, 1, 255]), chooser.one_of([0, 1, 15, 16, 17])]
+        SCRIPT.put((0, 15), NONE, data + [chooser.within(0, 255) for _ in range(4)] + [chooser.one_of([1, 2, 2, 3, 4])] + [7, 0, 9])
+        judged((0, chooser.within(1, 15)))
+
+
+def main():
     desk()
-    for head in CASES:
-        print(case(*head))
+    limits()
+    outside()
+    sweeps()
+    damages()
+    heads()
+    SCRIPT.write("share_runs")
+
+
+main()

@@ -1,30 +1,40 @@
-// Runs the store's calls on groups of a small generator and writes what comes back. tools/store_model makes what it must write, from
-// document 01 alone and by elimination.
-mod chain;
-mod choosing;
-mod collecting;
-mod example;
-mod groups;
-mod helping;
-mod nodes;
-mod refusals;
-mod runs;
+// Runs the store's calls as the script on standard input says, and writes each line again with what comes back. tools/store_model makes the
+// script and what must be written, from document 01 alone and by elimination.
+mod calls;
 
-use group::Group;
+use libc::STDIN_FILENO;
 
+// One line: its words, and then what the operation gives. The operations below 10 are the memories' own.
+fn line(words: &[u8], a: &mut [u8], b: &mut [u8]) {
+    let mut found = [0usize; 32];
+    let count = script::numbers(words, &mut found);
+    lines::say(words);
+    if count == 0 {
+        lines::say(b"\n");
+        return;
+    }
+    if found[0] < 10 {
+        script::work(&found, count, a, b);
+    } else {
+        calls::call(&found, count, a, b);
+    }
+}
+
+// Line by line.
+fn run(text: &[u8], a: &mut [u8], b: &mut [u8]) {
+    let mut at = 0;
+    while at < text.len() {
+        let end = script::line_end(text, at);
+        line(&text[at..end], a, b);
+        at = end + 1;
+    }
+}
+
+// The longest file has 491,520 letters.
 fn main() {
-    let mut file = [0u8; 65536];
-    let mut nodes = [0u8; 264000];
-    let mut space = [0u8; 65536];
-    refusals::all();
-    example::recovery(&mut nodes, &mut space);
-    groups::all(&mut file, &mut nodes, &mut space);
-    groups::ends(&mut file, &mut nodes, &mut space);
-    let chained = Group {
-        n: 7,
-        k: 3,
-        d: 5,
-        l: 17,
-    };
-    chain::run(chained, &mut file, &mut nodes, &mut space);
+    let mut text = [0u8; 400000];
+    let mut a = [0u8; 600000];
+    let mut b = [0u8; 600000];
+    let count = io::read_full(STDIN_FILENO, &mut text);
+    run(&text[..count], &mut a, &mut b);
 }

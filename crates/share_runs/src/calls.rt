@@ -1,0 +1,83 @@
+// An operation for each call.
+use share::Judgment;
+
+// A judgment: its number in document 01's table, 0 for a share, and the share's head.
+fn judgment(judgment: Judgment) {
+    match judgment {
+        Judgment::Complete(head) => {
+            let g = head.group;
+            lines::number(b": 0 of ", g.n);
+            lines::number(b" ", g.k);
+            lines::number(b" ", g.d);
+            lines::number(b" node ", head.node);
+            lines::number(b" length ", g.l);
+            lines::number(b" batch ", head.batch as usize);
+        }
+        Judgment::Refused(refusal) => lines::number(b": ", group::refusal_number(refusal)),
+    }
+}
+
+// The number of what judging bytes finds, as a digit.
+fn digit(bytes: &[u8]) -> u8 {
+    match share::judge(bytes) {
+        Judgment::Complete(_) => b'0',
+        Judgment::Refused(refusal) => (48 + group::refusal_number(refusal) % 10) as u8,
+    }
+}
+
+// Judges a share with another byte at an index, and puts its own back.
+fn judged_with(share: &mut [u8], at: usize, byte: u8) -> u8 {
+    if share.len() <= at {
+        return b'-';
+    }
+    let own = share[at];
+    share[at] = byte;
+    let found = digit(share);
+    share[at] = own;
+    found
+}
+
+// A digit for each of the 256 bytes that could stand at an index.
+fn sweep(share: &mut [u8], at: usize) {
+    let mut digits = [0u8; 256];
+    let mut byte: usize = 0;
+    while byte < 256 {
+        digits[byte] = judged_with(share, at, byte as u8);
+        byte += 1;
+    }
+    lines::say(b": ");
+    lines::say(&digits);
+}
+
+// The calls that are handed a group's numbers, [n,k,d] and L, and a node: 21 writes a share, with a batch number; 22 tells how long it is.
+fn written(found: &[usize; 32], from: &[u8], into: &mut [u8]) {
+    let g = group::of(found[5], found[6], found[7], found[8]);
+    let batch = (found[10] % 4294967296) as u32;
+    if found[0] == 21 {
+        script::answer(share::write(g, found[9], batch, from, into));
+    } else {
+        script::answer(share::share_bytes(g, found[9]));
+    }
+}
+
+// Those that are handed bytes: 23 judges, 24 reads, and 25 judges what is in B with every byte at an index.
+fn read(found: &[usize; 32], from: &[u8], into: &mut [u8]) {
+    let operation = found[0];
+    match operation {
+        23 => judgment(share::judge(from)),
+        24 => judgment(share::read(from, into)),
+        _ => sweep(into, found[5]),
+    }
+}
+
+// The call that a line names, on the slices that it names.
+pub fn call(found: &[usize; 32], a: &[u8], b: &mut [u8]) {
+    let from = lines::part(a, found[1], found[2]);
+    let into = script::part_mut(b, found[3], found[4]);
+    if found[0] < 23 {
+        written(found, from, into);
+    } else {
+        read(found, from, into);
+    }
+    script::sum(into);
+}

@@ -1,2 +1,0 @@
--- That the rows of consecutive ids can be solved.
-pub mod Solvable

@@ -1,2 +1,0 @@
--- The rows that the runs hand to the solver.
-pub mod Consecutive
