@@ -2,3 +2,4 @@
 pub mod Told
 pub mod Judged
 pub mod Outcomes
+pub mod Promises
