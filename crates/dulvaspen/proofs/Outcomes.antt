@@ -6,8 +6,10 @@ use lib.ListN.{length}
 use Rattle.group.specs.declared.Group.{Group}
 use Rattle.group.specs.Answers.{ifFine}
 use Rattle.matrix.specs.Counts.{recoveryCount, repairCount}
-use Rattle.rebuilding.specs.Calls.{recoverRefusal, repairRefusal}
-use Rattle.rebuilding.proofs.Outcomes.{one-recovered, one-repaired}
+use Rattle.recovering.specs.Calls.{recoverRefusal}
+use Rattle.rebuilding.specs.Calls.{repairRefusal}
+use Rattle.recovering.proofs.Outcomes.{one-recovered}
+use Rattle.rebuilding.proofs.Outcomes.{one-repaired}
 use Rattle.layout.proofs.Judgments.{not-share-and-beginning, one-head, one-letters}
 use Rattle.heads.specs.Heads.{heads}
 use Rattle.heads.proofs.Kind1Laws.{lawful}

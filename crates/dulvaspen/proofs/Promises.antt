@@ -1,8 +1,7 @@
 -- The promises about the exports for C, each a line from the promise about the call behind it (`store/proofs/Promises.antt`) or from what the export allows.
-use mathlib.Core.Path.{_≡_, refl, sym, ap, ap₂, _∙_}
+use mathlib.Core.Path.{_≡_, sym, ap₂, _∙_}
 use mathlib.Core.List.{List}
-use Prim.Native.Nat.{ℕ, zero, suc, _+_, _<_, _≤_}
-use native.Mathlib.Omega.{arith}
+use Prim.Native.Nat.{ℕ, _<_}
 use lib.ListN.{length, take}
 use Rattle.letters.specs.Algebra.{bytes, xors}
 use Rattle.letters.specs.Runs.{xored}
@@ -15,9 +14,8 @@ use Rattle.matrix.specs.Counts.{recoveryCount, recoveryCost}
 use Rattle.matrix.proofs.CostSums.{recovery-cost}
 use Rattle.matrix.proofs.Linear.{packets-linear}
 use Rattle.matrix.proofs.Theorems.{reading-once}
-use Rattle.nodes.specs.Calls.{encodeRefusal}
-use Rattle.rebuilding.specs.Calls.{recoverRefusal}
-use Rattle.rebuilding.proofs.RecoverCalls.{recover-of}
+use Rattle.recovering.specs.Calls.{recoverRefusal}
+use Rattle.recovering.proofs.RecoverCalls.{recover-of}
 use Rattle.layout.specs.Judgment.{IsShare}
 use Rattle.layout.proofs.Judgments.{cut-is-beginning}
 use Rattle.heads.specs.Heads.{heads}

@@ -7,7 +7,8 @@ use Rattle.group.specs.declared.Refusal.{Refusal}
 use Rattle.group.specs.declared.Answer.{Answer}
 use Rattle.group.specs.Answers.{numberOf, valueOf, ifFine, Answers}
 use Rattle.group.proofs.Refusals.{numbered, if-refused}
-use Rattle.rebuilding.specs.Calls.{Recovered, Repaired}
+use Rattle.recovering.specs.Calls.{Recovered}
+use Rattle.rebuilding.specs.Calls.{Repaired}
 use Rattle.dulvaspen.specs.Exports.{Tells, Recovers, Repairs}
 
 -- a value stands in the lent number

@@ -9,7 +9,8 @@ use Rattle.group.specs.Answers.{ifFine}
 use Rattle.matrix.specs.Pieces.{reading}
 use Rattle.matrix.specs.Repair.{equations}
 use Rattle.matrix.specs.Counts.{recoveryCount, repairCount}
-use Rattle.rebuilding.specs.Calls.{recoverRefusal, repairRefusal}
+use Rattle.recovering.specs.Calls.{recoverRefusal}
+use Rattle.rebuilding.specs.Calls.{repairRefusal}
 
 -- the call returns the refusal's number, 0 where there is none; then the lent number holds the value, and else what it held
 pub record Tells (refusal value before after r : ℕ) : Type 0 where

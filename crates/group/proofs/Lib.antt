@@ -4,3 +4,4 @@ pub mod InRange
 pub mod Ids
 pub mod Sizes
 pub mod Outcomes
+pub mod Called

@@ -1,11 +1,12 @@
 -- An answer is fixed by its number and its value.
 use mathlib.Core.Path.{_≡_, refl, sym, ap, _∙_}
+use mathlib.Core.List.{List}
 use Prim.Native.Nat.{ℕ, zero, suc}
 use Rattle.group.specs.declared.Refusal.{Refusal}
 use Rattle.group.specs.declared.Refusal.the-variants.{Numbers, Length, Ids, Order, Input, Output, Unfinished, Malformed}
 use Rattle.group.specs.declared.Answer.{Answer}
 use Rattle.group.specs.declared.Answer.the-variants.{Value, Refused}
-use Rattle.group.specs.Answers.{refusalNumber, numberOf, valueOf, ifFine, Answers}
+use Rattle.group.specs.Answers.{refusalNumber, numberOf, valueOf, ifFine, Answers, Called}
 use Rattle.group.proofs.Refusals.{numbered}
 
 -- the refusal of a number
@@ -45,3 +46,17 @@ same-answer (Refused a) (Refused b) e h = ap Refused (refusal-once a b e)
 pub answer-once : (r s : Answer) (q v w : ℕ) → Answers r q v → Answers s q w → v ≡ w → r ≡ s
 answer-once r s q v w a b e =
     same-answer r s (a .number ∙ sym (b .number)) (a .valued ∙ ap (λ m. ifFine q m 0) e ∙ sym (b .valued))
+
+-- a call that fills a buffer leaves one content and answers one thing
+pub called-once :
+    (q v : ℕ) (right before after after′ : List ℕ) (r r′ : Answer) → Called q v right before after r → Called q v right before after′ r′
+    → (after ≡ after′) × (r ≡ r′)
+called-once q v right before after after′ r r′ c c′ =
+    (c .holds ∙ sym (c′ .holds), answer-once r r′ q v v (c .answer) (c′ .answer) refl)
+
+-- what a buffer may hold at exit, by whether the call was refused
+pub by-refusal :
+    (q : ℕ) (f : List ℕ → List ℕ) (before after after′ : List ℕ) → ifFine q (f after) after ≡ before → ifFine q (f after′) after′ ≡ before
+    → (q ≡ 0 → f after ≡ f after′ → after ≡ after′) → after ≡ after′
+by-refusal zero f before after after′ e e′ once = once refl (e ∙ sym e′)
+by-refusal (suc q) f before after after′ e e′ once = e ∙ sym e′

@@ -1,6 +1,7 @@
 -- Each refusal's number in document 01 (docs/SCHEME.md, 11), and what an answer's number and value are.
 use mathlib.Core.Path.{_≡_}
 use mathlib.Core.Bool.{Bool, true, false}
+use mathlib.Core.List.{List}
 use Prim.Native.Nat.{ℕ, zero, suc}
 use Rattle.group.specs.declared.Refusal.{Refusal}
 use Rattle.group.specs.declared.Refusal.the-variants.{Numbers, Length, Ids, Order, Input, Output, Unfinished, Malformed}
@@ -52,3 +53,8 @@ ifFine (suc r) v w = w
 pub record Answers (r : Answer) (refusal value : ℕ) : Type 0 where
   pub number : numberOf r ≡ refusal
   pub valued : valueOf r ≡ ifFine refusal value 0
+
+-- A call that is refused by this number (0: not refused) and else answers this value: its buffer then holds what is right, and where it is refused what it held before.
+pub record Called (refusal value : ℕ) (right before after : List ℕ) (r : Answer) : Type 0 where
+  pub answer : Answers r refusal value
+  pub holds : after ≡ ifFine refusal right before

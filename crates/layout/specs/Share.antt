@@ -1,8 +1,8 @@
 -- The share of document 01 (docs/SCHEME.md, 9): a head, the letters in blocks, and an end.
 use mathlib.Core.Path.{_≡_}
 use mathlib.Core.List.{List, _++_}
-use Prim.Native.Nat.{ℕ, _<_}
-use lib.ListN.{length, getD}
+use Prim.Native.Nat.{ℕ}
+use lib.ListN.{length}
 use Rattle.letters.specs.Lanes.{Bytes}
 use Rattle.records.specs.Records.{blockRecords, endRecord}
 use Rattle.layout.specs.Layout.{Layout}

@@ -1,9 +1,9 @@
 -- A map of letters that takes sums to sums goes through the product: the packets and the pieces of what it makes of a file are what it makes of theirs.
 -- A bit lane is such a map, and so is a number's last byte: so each lane is one copy of the papers' code, and from bytes come bytes.
-use mathlib.Core.Path.{_≡_, refl, sym, ap, _∙_}
+use mathlib.Core.Path.{_≡_, sym, ap, _∙_}
 use mathlib.Core.Bool.{Bool, true, false, cond}
 use mathlib.Core.List.{List, map}
-use Prim.Native.Nat.{ℕ, _+_, _-_, _*_, _≤_, min, max}
+use Prim.Native.Nat.{ℕ, _+_, _-_, _*_, min, max}
 use lib.Dec.{leb}
 use lib.ListN.{length, length-map}
 use Rattle.letters.specs.Algebra.{Adding, xors, bytes, bits}

@@ -1,73 +1,21 @@
 -- What a refused call and one that is not refused leave.
-use mathlib.Core.Path.{_≡_, refl, sym, ap₂, _∙_}
-use mathlib.Core.Bool.{not}
-use mathlib.Core.List.{List}
-use Prim.Native.Nat.{ℕ, zero, suc, _+_, _≤_}
+use mathlib.Core.Path.{_≡_, refl}
+use Prim.Native.Nat.{ℕ, _+_, _≤_}
 use native.Mathlib.Omega.{arith}
 use lib.Dec.{eqb}
-use borrow.Author.Tests.{eqb-true, eqb-false, not-true, le-leb, eq-eqb, ne-eqb}
+use borrow.Author.Tests.{eqb-true, le-leb, eq-eqb}
 use Rattle.letters.specs.Places.{both}
 use Rattle.group.specs.declared.Group.{Group}
-use Rattle.group.specs.declared.Refusal.{Refusal}
-use Rattle.group.specs.declared.Answer.{Answer}
-use Rattle.group.specs.Answers.{refusalNumber, unless, first}
+use Rattle.group.specs.Answers.{unless, first}
 use Rattle.group.specs.Ranges.{between, mostLetters, InRange, NodeOf, groupRefusal, nodeRefusal}
 use Rattle.shifts.specs.Rule.{t}
 use Rattle.group.specs.Lengths.{packetStart, packetLength, nodeLetters}
 use Rattle.group.proofs.Sizes.{packet-fits, node-at-most}
-use Rattle.group.proofs.Refusals.{numbered, refuses, gives, first-none, first-fine, unless-none, both-true}
+use Rattle.group.proofs.Refusals.{first-none, unless-none, both-true}
 use Rattle.group.proofs.InRange.{between-true, in-range, range-in, node-of, of-node}
-use Rattle.nodes.specs.Calls.{Called, helperRefusal, placeRefusal, pieceRefusal, entryRefusal}
-use Rattle.nodes.specs.Steps.Checked.{Helper}
+use Rattle.nodes.specs.Calls.{placeRefusal, pieceRefusal, entryRefusal}
 use Rattle.matrix.specs.Matrix.{Free}
 use Rattle.matrix.proofs.Product.{shift-rises}
-
-pub call-refused :
-    (r : Refusal) (q v : ℕ) (right before : List ℕ) → refusalNumber r ≡ q → Called q v right before before (Answer.Refused r)
-call-refused r zero v right before e = absurd (numbered r e)
-call-refused r (suc q) v right before e = record { answer = refuses r (suc q) v e; holds = refl }
-
-pub call-fine :
-    (q w v : ℕ) (right before after : List ℕ) → q ≡ 0 → w ≡ v → after ≡ right → Called q v right before after (Answer.Value w)
-call-fine zero w v right before after e h is = record { answer = gives zero w v refl h; holds = is }
-call-fine (suc q) w v right before after e h is = absurd (omega arith)
-
--- where the checks before refuse nothing, the refusals on lengths are what comes out
-pub lengths-after :
-    (q a wa b wb A B : ℕ) → q ≡ 0 → wa ≡ A → wb ≡ B
-    → first (unless (eqb a wa) 5) (unless (eqb b wb) 6) ≡ first q (first (unless (eqb a A) 5) (unless (eqb b B) 6))
-lengths-after q a wa b wb A B z ea eb =
-    ap₂ (λ m n. first (unless (eqb a m) 5) (unless (eqb b n) 6)) ea eb ∙ sym (first-fine q (first (unless (eqb a A) 5) (unless (eqb b B) 6)) z)
-
--- a helper that no check refuses, and the other way round
-pub helper-of : (g : Group) (lost helper rank : ℕ) → helperRefusal g lost helper rank ≡ 0 → Helper g lost helper rank
-unfolding helperRefusal
-helper-of g lost helper rank e =
-    let w = first-none (nodeRefusal g lost) (first (unless (both (between 1 (g .n) helper) (between 1 (g .d) rank)) 3) (unless (not (eqb helper lost)) 4)) e in
-    let v = first-none (unless (both (between 1 (g .n) helper) (between 1 (g .d) rank)) 3) (unless (not (eqb helper lost)) 4) (w .1) in
-    let n = node-of g lost (w .0) in
-    let b = both-true (between 1 (g .n) helper) (between 1 (g .d) rank) (unless-none (both (between 1 (g .n) helper) (between 1 (g .d) rank)) 3 (λ q. omega arith) (v .0)) in
-    let h = between-true 1 (g .n) helper (b .0) in
-    let r = between-true 1 (g .d) rank (b .1) in
-    record {
-      node = n;
-      other = record { group = n .group; low = h .0; high = h .1 };
-      rank-low = r .0;
-      rank-high = r .1;
-      apart = eqb-false helper lost (not-true (eqb helper lost) (unless-none (not (eqb helper lost)) 4 (λ q. omega arith) (v .1)));
-    }
-
-pub of-helper : (g : Group) (lost helper rank : ℕ) → Helper g lost helper rank → helperRefusal g lost helper rank ≡ 0
-unfolding helperRefusal
-of-helper g lost helper rank r =
-    simp (
-      of-node g lost (r .node),
-      le-leb 1 helper (r .other .low),
-      le-leb helper (g .n) (r .other .high),
-      le-leb 1 rank (r .rank-low),
-      le-leb rank (g .d) (r .rank-high),
-      ne-eqb helper lost (r .apart),
-    )
 
 -- an entry that the check lets through is a free one
 pub place-of : (g : Group) (rank column : ℕ) → InRange g → placeRefusal g rank column ≡ 0 → Free g rank column

@@ -1,4 +1,3 @@
--- Laws, and why the functions keep their contracts.
+-- What the checks of pieces let through, and that the empty part means refused.
 pub mod Called
-pub mod Outcomes
 pub mod Handing

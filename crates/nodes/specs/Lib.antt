@@ -1,3 +1,2 @@
--- What a node makes: its packets, and what it sends for a recovery or a repair.
+-- What a node holds, and what it sends for a recovery.
 pub mod Calls
-pub mod Steps

@@ -1,4 +1,3 @@
-// What a node makes: its packets of a file, the pieces that it sends for a recovery, and those for a repair.
+// What a node holds, its packets of a file, and the pieces that it sends for a recovery.
 pub mod encoding;
-pub mod helping;
 pub mod pieces;

@@ -1,8 +1,4 @@
--- Laws, and why the functions keep their contracts.
-pub mod ColumnCounts
+-- Why help and repair keep their contracts.
+pub mod HelpCalls
 pub mod Outcomes
-pub mod Pushing
-pub mod RecoverCalls
 pub mod RepairCalls
-pub mod SolveColumn
-pub mod Stages

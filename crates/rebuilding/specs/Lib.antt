@@ -1,3 +1,3 @@
--- What comes back: the file from k nodes, a lost node from d.
+-- A lost node from d others.
 pub mod Calls
 pub mod Steps

@@ -1,3 +1,3 @@
-// What comes back: the file from the pieces of k nodes, and a lost node's packets from the pieces of d.
-pub mod recovery;
+// A lost node from d others: what each helper sends, and the lost node's packets from their pieces.
+pub mod helping;
 pub mod repairing;

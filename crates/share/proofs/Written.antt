@@ -2,14 +2,10 @@
 use mathlib.Core.Path.{_≡_, refl}
 use mathlib.Core.List.{List}
 use Prim.Native.Nat.{ℕ, zero, suc}
-use native.Mathlib.Omega.{arith}
-use lib.Dec.{eqb}
-use borrow.Author.Tests.{eqb-true}
 use Rattle.group.specs.declared.Refusal.{Refusal}
 use Rattle.group.specs.declared.Answer.{Answer}
 use Rattle.group.specs.Answers.{refusalNumber, first}
-use Rattle.group.specs.Ranges.{inputRefusal, outputRefusal}
-use Rattle.group.proofs.Refusals.{numbered, unless-none, first-none, first-fine, refuses, gives}
+use Rattle.group.proofs.Refusals.{numbered, first-fine, refuses, gives}
 use Rattle.layout.specs.Share.{shareOf}
 use Rattle.heads.specs.declared.Head.{Head}
 use Rattle.heads.specs.Heads.{heads}

@@ -32,10 +32,12 @@ use Rattle.matrix.proofs.Linear.{packets-linear}
 use Rattle.matrix.proofs.Theorems.{reading-once, piece-handed}
 use Rattle.matrix.proofs.Rebuilt.{rebuilds, same-buffer}
 use Rattle.matrix.proofs.CostSums.{recovery-cost, repair-cost}
-use Rattle.nodes.specs.Calls.{Called, Encoded, Helped, pieceRefusal, entryRefusal}
+use Rattle.group.specs.Answers.{Called}
+use Rattle.nodes.specs.Calls.{Encoded, pieceRefusal, entryRefusal}
+use Rattle.rebuilding.specs.Calls.{Helped}
 use Rattle.nodes.proofs.Called.{of-piece, of-entry}
-use Rattle.rebuilding.specs.Calls.{readersRefusal, Recovered}
-use Rattle.rebuilding.proofs.RecoverCalls.{readers-of, recover-of, of-recover}
+use Rattle.recovering.specs.Calls.{readersRefusal, Recovered}
+use Rattle.recovering.proofs.RecoverCalls.{readers-of, recover-of, of-recover}
 use Rattle.rebuilding.proofs.RepairCalls.{repair-of}
 use Rattle.letters.specs.Lanes.{Bytes}
 use Rattle.layout.specs.Share.{ShareOf}

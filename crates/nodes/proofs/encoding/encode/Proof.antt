@@ -2,7 +2,7 @@
 use Rattle.group.proofs.InRange.{node-of}
 use Rattle.group.proofs.Refusals.{fine, passed-on}
 use Rattle.nodes.specs.Calls.{encodeRefusal}
-use Rattle.nodes.proofs.Called.{call-refused}
+use Rattle.group.proofs.Called.{call-refused}
 use borrow.Author.Needs.{needs}
 use Rattle.nodes.proofs.encoding.encode.Statement.{statement}
 use Rattle.nodes.proofs.encoding.encode.Tie as tie

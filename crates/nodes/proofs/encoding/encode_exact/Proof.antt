@@ -5,7 +5,7 @@ use Rattle.group.proofs.InRange.{of-node}
 use Rattle.group.proofs.Refusals.{exact-lengths, stopped, fine}
 use Rattle.group.proofs.Sizes.{node-at-most}
 use Rattle.nodes.specs.Calls.{encodeRefusal}
-use Rattle.nodes.proofs.Called.{call-refused, call-fine, lengths-after}
+use Rattle.group.proofs.Called.{call-refused, call-fine, lengths-after}
 use Rattle.matrix.proofs.Product.{wide-packet, wide-node}
 use borrow.Author.Needs.{needs}
 use Rattle.nodes.proofs.encoding.encode_exact.Statement.{statement}

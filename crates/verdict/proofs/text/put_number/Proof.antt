@@ -1,8 +1,6 @@
 -- `text::put_number` meets its contract: the words are put, and after them the fewest digits that hold the number.
 use mathlib.Core.Path.{subst}
-use Prim.Native.Nat.{_+_}
 use native.Mathlib.Omega.{arith}
-use lib.ListN.{length}
 use borrow.Author.Needs.{needs}
 use Rattle.verdict.specs.Line.{Put}
 use Rattle.verdict.proofs.Decimals.{few, spelled}

@@ -1,0 +1,28 @@
+-- What a refused call and one that is not refused leave.
+use mathlib.Core.Path.{_≡_, refl, sym, ap₂, _∙_}
+use mathlib.Core.List.{List}
+use Prim.Native.Nat.{ℕ, zero, suc}
+use native.Mathlib.Omega.{arith}
+use lib.Dec.{eqb}
+use Rattle.group.specs.declared.Refusal.{Refusal}
+use Rattle.group.specs.declared.Answer.{Answer}
+use Rattle.group.specs.Answers.{refusalNumber, unless, first}
+use Rattle.group.proofs.Refusals.{numbered, refuses, gives, first-fine}
+use Rattle.group.specs.Answers.{Called}
+
+pub call-refused :
+    (r : Refusal) (q v : ℕ) (right before : List ℕ) → refusalNumber r ≡ q → Called q v right before before (Answer.Refused r)
+call-refused r zero v right before e = absurd (numbered r e)
+call-refused r (suc q) v right before e = record { answer = refuses r (suc q) v e; holds = refl }
+
+pub call-fine :
+    (q w v : ℕ) (right before after : List ℕ) → q ≡ 0 → w ≡ v → after ≡ right → Called q v right before after (Answer.Value w)
+call-fine zero w v right before after e h is = record { answer = gives zero w v refl h; holds = is }
+call-fine (suc q) w v right before after e h is = absurd (omega arith)
+
+-- where the checks before refuse nothing, the refusals on lengths are what comes out
+pub lengths-after :
+    (q a wa b wb A B : ℕ) → q ≡ 0 → wa ≡ A → wb ≡ B
+    → first (unless (eqb a wa) 5) (unless (eqb b wb) 6) ≡ first q (first (unless (eqb a A) 5) (unless (eqb b B) 6))
+lengths-after q a wa b wb A B z ea eb =
+    ap₂ (λ m n. first (unless (eqb a m) 5) (unless (eqb b n) 6)) ea eb ∙ sym (first-fine q (first (unless (eqb a A) 5) (unless (eqb b B) 6)) z)

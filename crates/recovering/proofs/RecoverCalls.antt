@@ -1,0 +1,62 @@
+-- What a refused recovery and one that is not refused leave.
+use mathlib.Core.Path.{_≡_, refl, _∙_}
+use mathlib.Core.List.{List}
+use Prim.Native.Nat.{ℕ}
+use native.Mathlib.Omega.{arith}
+use lib.Dec.{eqb}
+use lib.ListN.{length}
+use borrow.Author.Tests.{eqb-true, eq-eqb}
+use Rattle.letters.specs.Algebra.{xors}
+use Rattle.group.specs.declared.Group.{Group}
+use Rattle.group.specs.declared.Refusal.{Refusal}
+use Rattle.group.specs.declared.Answer.{Answer}
+use Rattle.group.specs.Answers.{refusalNumber, unless}
+use Rattle.group.specs.Ranges.{groupRefusal, idsRefusal}
+use Rattle.group.specs.Lengths.{fileLetters}
+use Rattle.group.proofs.InRange.{in-range}
+use Rattle.group.proofs.Refusals.{numbered, refuses, gives, first-none, unless-none, if-refused, if-fine}
+use Rattle.matrix.specs.Pieces.{reading}
+use Rattle.matrix.specs.Counts.{recoveryCount}
+use Rattle.recovering.specs.Calls.{readersRefusal, recoverRefusal, Recovered}
+use Rattle.recovering.specs.Steps.Checked.{Readers}
+use Rattle.recovering.specs.Steps.Recovery.{Collected, Stage}
+use Rattle.matrix.proofs.ChosenIds.{chosen-of}
+use Rattle.recovering.proofs.Stages.{stage-end}
+
+pub readers-of : (g : Group) (ids : List ℕ) → readersRefusal g ids ≡ 0 → Readers g ids
+unfolding readersRefusal
+readers-of g ids e =
+    let w = first-none (groupRefusal g) (idsRefusal g (g .k) ids) e in
+    record { chosen = chosen-of g (g .k) ids (in-range g (w .0)) (w .1); fine = e }
+
+-- a recovery that is not refused has ids that may be read and a buffer of B*L letters, and the other way round
+pub recover-of : (g : Group) (ids : List ℕ) (n : ℕ) → recoverRefusal g ids n ≡ 0 → Readers g ids × (n ≡ fileLetters g)
+unfolding recoverRefusal
+recover-of g ids n e =
+    let w = first-none (readersRefusal g ids) (unless (eqb n (fileLetters g)) 5) e in
+    (readers-of g ids (w .0), eqb-true n (fileLetters g) (unless-none (eqb n (fileLetters g)) 5 (λ q. omega arith) (w .1)))
+
+pub of-recover : (g : Group) (ids : List ℕ) (n : ℕ) → readersRefusal g ids ≡ 0 → n ≡ fileLetters g → recoverRefusal g ids n ≡ 0
+unfolding recoverRefusal
+of-recover g ids n e long = simp (e, eq-eqb n (fileLetters g) long)
+
+pub recover-refused :
+    (g : Group) (ids before : List ℕ) (r : Refusal) → refusalNumber r ≡ recoverRefusal g ids (length before)
+    → Recovered g ids before before (Answer.Refused r)
+recover-refused g ids before r e =
+    record {
+      answer = refuses r (recoverRefusal g ids (length before)) (recoveryCount g ids before) e;
+      same-length = refl;
+      holds = if-refused (recoverRefusal g ids (length before)) (reading xors g before ids) before (λ z. numbered r (e ∙ z));
+    }
+
+pub recover-fine :
+    (g : Group) (ids before after : List ℕ) (count : ℕ) → Collected g ids before → recoverRefusal g ids (length before) ≡ 0
+    → Stage g ids 0 before after count → Recovered g ids before after (Answer.Value count)
+recover-fine g ids before after count collected e stage =
+    let w = stage-end g ids before after count collected stage in
+    record {
+      answer = gives (recoverRefusal g ids (length before)) count (recoveryCount g ids after) e (w .1);
+      same-length = stage .same-length;
+      holds = if-fine (recoverRefusal g ids (length before)) (reading xors g after ids) after e ∙ w .0;
+    }

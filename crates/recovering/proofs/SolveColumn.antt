@@ -1,0 +1,213 @@
+-- One column solved where it lies, as a part of the buffer: its entries are the part's sequences, and all others are as they were.
+use mathlib.Core.Path.{_≡_, refl, sym, ap, ap₂, subst, _∙_}
+use mathlib.Core.Bool.{Bool, true, false, cond}
+use mathlib.Core.List.{List}
+use mathlib.Core.Logic.{⊎-elim}
+use Prim.Native.Nat.{ℕ, _+_, _-_, _*_, _≤_, _<_, min}
+use native.Mathlib.Nat.{add-mul, mul-le-mul, mul-le-mul-right, add-assoc, mul-one, eq-or-lt-of-le}
+use native.Mathlib.Omega.{arith}
+use lib.Bits.{bitXor}
+use lib.Dec.{eqb}
+use lib.ListN.{length, getD, take, drop, length-drop}
+use lib.Seq.{getD-take, getD-drop, length-take-le}
+use Rattle.letters.specs.Algebra.{xors, counts, sum}
+use Rattle.letters.specs.Places.{inside}
+use Rattle.letters.specs.Worth.{worthOf}
+use Rattle.letters.proofs.Cases.{le-or-lt}
+use Rattle.letters.proofs.Places.{letter-same}
+use Rattle.letters.proofs.Sums.{sum-same, sum-at-most}
+use Rattle.letters.proofs.Worth.{worthOf-at-most}
+use Rattle.system.specs.System.{sequence}
+use Rattle.system.specs.Count.{within, taken, ofEquation, additions}
+use Rattle.solving.specs.Solver.{shiftIn, Solved}
+use Rattle.system.proofs.System.{part-same, index-below}
+use Rattle.shifts.specs.Rule.{t}
+use Rattle.group.specs.declared.Group.{Group}
+use Rattle.group.specs.Ranges.{longest}
+use Rattle.group.specs.Lengths.{fileLetters}
+use Rattle.matrix.specs.Matrix.{before, entryNumber}
+use Rattle.sequences.specs.Steps.Rows.{RowsOf}
+use Rattle.recovering.specs.Steps.Recovery.{entriesMost, columnMost, standing, seenAt, Collected, runWorth, columnWorth, Pushed, Column}
+use Rattle.matrix.proofs.ChosenRanks.{ranks}
+use Rattle.sequences.proofs.Charted.{additions-same, charted-part, charted-additions}
+use Rattle.matrix.proofs.Columns.{before-apart, before-all}
+use Rattle.sequences.proofs.PutBack.{back, back-length, back-before, back-inside, back-after}
+use Rattle.matrix.proofs.Reading.{shifts}
+
+-- what solving is worth is at most one for each equation and sequence
+pub additions-bound : (s n : ℕ) (u x : ℕ → ℕ → ℕ) → additions s n u x ≤ s * (n * s)
+unfolding additions ofEquation taken
+additions-bound s n u x =
+    sum-at-most s (n * s) (λ b. sum counts n (λ p. ofEquation s n u x b p))
+    (λ b lb hb.
+    sum-at-most n s (λ p. ofEquation s n u x b p)
+    (λ p lp hp.
+    subst (λ m. ofEquation s n u x b p ≤ m) (mul-one s)
+    (sum-at-most s 1 (λ a. taken n u x b p a) (λ a la ha. small (eqb a b) (inside n ((p + u b b) - u b a)) (worthOf (x a ((p + u b b) - u b a))) (worthOf-at-most (x a ((p + u b b) - u b a)))))))
+  where
+    small : (own here : Bool) (m : ℕ) → m ≤ 1 → cond own 0 (cond here m 0) ≤ 1
+    small true here m h = omega arith
+    small false true m h = h
+    small false false m h = omega arith
+
+-- what was solved for as many sequences, by another name of that number
+pub solved-as : (s s′ n : ℕ) (rows lent solution : List ℕ) (count : ℕ) → s ≡ s′ → Solved s n rows lent solution count → Solved s′ n rows lent solution count
+solved-as s s′ n rows lent solution count e solved = subst (λ m. Solved m n rows lent solution count) e solved
+
+-- where letter q + 1 of entry (v,u) stands: v - 1 sequences after the column's start
+entry-index : (k l v u q : ℕ) → 1 ≤ v → (entryNumber k v u - 1) * l + q ≡ before k u * l + ((v - 1) * l + q)
+unfolding entryNumber
+entry-index k l v u q lv =
+    ap (λ m. m * l + q) later ∙ ap (λ m. m + q) (add-mul (before k u) (v - 1) l) ∙ add-assoc (before k u * l) ((v - 1) * l) q
+  where
+    later : before k u + v - 1 ≡ before k u + (v - 1)
+    later = omega arith
+
+-- the letters of an entry lie between its column's start and its column's end
+entry-within :
+    (k l v u q : ℕ) → 1 ≤ v → v ≤ min u k → q < l
+    → (before k u * l ≤ (entryNumber k v u - 1) * l + q) × ((entryNumber k v u - 1) * l + q < before k u * l + min u k * l)
+entry-within k l v u q lv hv h = (
+  omega (arith, entry-index k l v u q lv),
+  omega (arith, entry-index k l v u q lv, index-below (min u k) l v (q + 1) lv hv (omega arith) (omega arith), place),
+)
+  where
+    place : (v - 1) * l + (q + 1 - 1) ≡ (v - 1) * l + q
+    place = ap (λ m. (v - 1) * l + m) back
+      where
+        back : q + 1 - 1 ≡ q
+        back = omega arith
+
+-- a column's letters end before a later column's start
+columns-apart : (k l u x : ℕ) → 1 ≤ k → 1 ≤ u → u < x → before k u * l + min u k * l ≤ before k x * l
+columns-apart k l u x lk lu h = omega (arith, mul-le-mul-right l (before-apart k u x lk lu h), add-mul (before k u) (min u k) l)
+
+module _ (g : Group) (ids buffer : List ℕ) (collected : Collected g ids buffer) (u : ℕ) (lu : 1 ≤ u) (hu : u ≤ g .d) where
+  abbrev s : ℕ
+  s = min u (g .k)
+
+  -- the column's letters lie in the buffer
+  pub column-fits : before (g .k) u * g .l + s * g .l ≤ length buffer
+  unfolding fileLetters
+  column-fits =
+      omega (
+        arith,
+        columns-apart (g .k) (g .l) u (g .d + 1) (omega arith) lu (omega arith),
+        collected .long,
+        ap (λ m. m * g .l) (before-all g (collected .chosen .group)),
+      )
+
+  module _ (start end : ℕ) (starts : start ≡ before (g .k) u * g .l) (ends : end ≡ start + s * g .l) where
+    abbrev lent : List ℕ
+    lent = take (end - start) (drop start buffer)
+
+    pub lent-size : length lent ≡ end - start
+    lent-size = length-take-le (end - start) (drop start buffer) (rw length-drop (omega (arith, column-fits)))
+
+    pub lent-length : length lent ≡ s * g .l
+    lent-length = lent-size ∙ size
+      where
+        size : end - start ≡ s * g .l
+        size = omega arith
+
+    -- the part's sequences are the column's entries
+    lent-entry : (v p : ℕ) → 1 ≤ v → v ≤ s → sequence 0 lent (g .l) v p ≡ standing g buffer v u p
+    unfolding sequence
+    lent-entry v p lv hv =
+        letter-same 0 lent buffer ((v - 1) * g .l) ((entryNumber (g .k) v u - 1) * g .l) (g .l) p
+        (λ q h.
+        getD-take (end - start) (drop start buffer) ((v - 1) * g .l + q) 0 (omega (arith, entry-within (g .k) (g .l) v u q lv hv h, entry-index (g .k) (g .l) v u q lv))
+        ∙ getD-drop start buffer ((v - 1) * g .l + q) 0
+        ∙ ap (λ i. getD buffer i 0) (omega-index v q lv))
+      where
+        omega-index : (v q : ℕ) → 1 ≤ v → start + ((v - 1) * g .l + q) ≡ (entryNumber (g .k) v u - 1) * g .l + q
+        omega-index v q lv = omega (arith, entry-index (g .k) (g .l) v u q lv)
+
+    module _ (solution : List ℕ) (long : length solution ≡ end - start) where
+      -- the buffer with the part back in its place
+      abbrev middle : List ℕ
+      middle = back buffer solution start end (omega arith) (omega (arith, column-fits)) long
+
+      pub middle-length : length middle ≡ length buffer
+      middle-length = back-length buffer solution start end (omega arith) (omega (arith, column-fits)) long
+
+      middle-own : (v p : ℕ) → 1 ≤ v → v ≤ s → standing g middle v u p ≡ sequence 0 solution (g .l) v p
+      unfolding sequence
+      middle-own v p lv hv =
+          letter-same 0 middle solution ((entryNumber (g .k) v u - 1) * g .l) ((v - 1) * g .l) (g .l) p
+          (λ q h.
+          ap (λ i. getD middle i 0) (place v q lv)
+          ∙ back-inside buffer solution start end (omega arith) (omega (arith, column-fits)) long 0 ((v - 1) * g .l + q)
+          (omega (arith, entry-within (g .k) (g .l) v u q lv hv h, entry-index (g .k) (g .l) v u q lv)))
+        where
+          place : (v q : ℕ) → 1 ≤ v → (entryNumber (g .k) v u - 1) * g .l + q ≡ start + ((v - 1) * g .l + q)
+          place v q lv = omega (arith, entry-index (g .k) (g .l) v u q lv)
+
+      middle-other :
+          (v x p : ℕ) → 1 ≤ x → (x ≡ u → ⊥) → 1 ≤ v → v ≤ min x (g .k) → standing g middle v x p ≡ standing g buffer v x p
+      unfolding sequence
+      middle-other v x p lx ne lv hv =
+          letter-same 0 middle buffer ((entryNumber (g .k) v x - 1) * g .l) ((entryNumber (g .k) v x - 1) * g .l) (g .l) p
+          (λ q h.
+          ⊎-elim
+          (λ up.
+          back-after buffer solution start end (omega arith) (omega (arith, column-fits)) long 0 ((entryNumber (g .k) v x - 1) * g .l + q)
+          (omega (arith, columns-apart (g .k) (g .l) u x (omega arith) lu (⊎-elim (λ e. absurd (ne (sym e))) (λ l. l) (eq-or-lt-of-le up)), entry-within (g .k) (g .l) v x q lv hv h)))
+          (λ down.
+          back-before buffer solution start end (omega arith) (omega (arith, column-fits)) long 0 ((entryNumber (g .k) v x - 1) * g .l + q)
+          (omega (arith, columns-apart (g .k) (g .l) x u (omega arith) lx down, entry-within (g .k) (g .l) v x q lv hv h)))
+          (le-or-lt u x))
+
+      pub column-done :
+          (rows after : List ℕ) (count more : ℕ) → RowsOf t ids rows → Solved s (g .l) rows lent solution count
+          → Pushed g ids u (min (u - 1) (g .k)) middle after more → more ≤ columnMost → Column g ids u buffer after (count + more)
+      unfolding columnWorth runWorth
+      column-done rows after count more r solved push bound =
+          record {
+            same-length = push .same-length ∙ middle-length;
+            solved =
+                λ v p lv hv lp hp.
+                part-same xors s (shifts ids) (shifts ids) (λ a. standing g after a u) (sequence 0 solution (g .l)) v p
+                (λ a la ha. after-own a ((p + shifts ids v v) - shifts ids v a) la ha)
+                ∙ sym (charted-part t ids rows r (g .k) (ranks g (g .k) ids (collected .chosen) (omega arith)) s (omega arith) (omega arith) (sequence 0 solution (g .l)) v p lv hv)
+                ∙ solved .parts v p lv hv lp hp
+                ∙ lent-entry v p lv hv;
+            pushed =
+                λ c w p lc hc hk lw hw lp hp.
+                push .here c w p lc (omega arith) lw hw lp hp
+                ∙ ap₂ bitXor (middle-other w c p lc (λ e. omega arith) lw (omega arith)) (sym (still c (seenAt ids w u p) lc (omega arith)));
+            kept =
+                λ v x p lx hx past ne lv hv.
+                push .there v x p (past-columns x past ne) hx lv hv ∙ middle-other v x p lx ne lv hv;
+            counted =
+                ap₂ _+_
+                (solved .counted
+                ∙ charted-additions t ids rows r (g .k) (ranks g (g .k) ids (collected .chosen) (omega arith)) s (omega arith) (omega arith) (g .l) (sequence 0 solution (g .l))
+                ∙ additions-same s (g .l) (shifts ids) (shifts ids) (sequence 0 solution (g .l)) (λ a. standing g after a u) (λ b a lb hb la ha. refl)
+                (λ a p la ha. sym (after-own a p la ha)))
+                (push .counted
+                ∙ sum-same counts (min (u - 1) (g .k)) (λ c. sum counts c (λ w. runWorth g ids middle u c w)) (λ c. sum counts c (λ w. runWorth g ids after u c w))
+                (λ c lc hc.
+                sum-same counts c (λ w. runWorth g ids middle u c w) (λ w. runWorth g ids after u c w)
+                (λ w lw hw.
+                sum-same counts (g .l) (λ p. within (g .l) (seenAt ids w u p) (worthOf (standing g middle c u (seenAt ids w u p))))
+                (λ p. within (g .l) (seenAt ids w u p) (worthOf (standing g after c u (seenAt ids w u p))))
+                (λ p lp hp. ap (λ z. within (g .l) (seenAt ids w u p) (worthOf z)) (sym (still c (seenAt ids w u p) lc (omega arith)))))));
+            bound =
+                omega (
+                  arith,
+                  solved .counted,
+                  additions-bound s (g .l) (shiftIn rows) (sequence 0 solution (g .l)),
+                  mul-le-mul {n₁ = s} {m₁ = g .l * s} {n₂ = 16} {m₂ = entriesMost} (omega arith) (mul-le-mul {n₁ = g .l} {m₁ = s} {n₂ = longest} {m₂ = 16} (omega arith) (omega arith)),
+                );
+          }
+        where
+          -- column u stays as it was solved while it is taken out of the others
+          still : (c p : ℕ) → 1 ≤ c → c ≤ s → standing g after c u p ≡ standing g middle c u p
+          still c p lc hc = push .there c u p (omega arith) hu lc hc
+
+          after-own : (a p : ℕ) → 1 ≤ a → a ≤ s → standing g after a u p ≡ sequence 0 solution (g .l) a p
+          after-own a p la ha = still a p la ha ∙ middle-own a p la ha
+
+          past-columns : (x : ℕ) → (x < u → g .k < x) → (x ≡ u → ⊥) → min (u - 1) (g .k) < x
+          past-columns x past ne = ⊎-elim (λ up. omega arith) (λ down. omega (arith, past down)) (le-or-lt u x)

@@ -1,0 +1,30 @@
+-- `recovery::check_readers` meets its contract: 1 and 2 come first.
+use Rattle.group.proofs.Refusals.{passed-on, went-on}
+use Rattle.recovering.specs.Calls.{readersRefusal}
+use borrow.Author.Needs.{needs}
+use Rattle.recovering.proofs.recovery.check_readers.Statement.{statement}
+use Rattle.recovering.proofs.recovery.check_readers.Tie as tie
+
+group-requires : tie.Need-group-requires
+group-requires c κs = search needs
+
+enum-known-refusal : tie.Need-enum-known-refusal
+enum-known-refusal c = search needs
+
+enum-told : tie.Need-enum-told
+enum-told c = search needs
+
+ids-requires : tie.Need-ids-requires
+ids-requires c κs = search needs
+
+returns : tie.Need-returns
+unfolding readersRefusal
+returns c = passed-on _ _ _ _ (c .before .refusal .given .1) (c .before .before .before .group .ensures)
+
+returns-2 : tie.Need-returns-2
+unfolding readersRefusal
+returns-2 c = went-on _ _ _ _ (c .before .enum-told .given .1) (c .before .before .before .group .ensures) (c .ids .ensures)
+
+pub check-readers-spec : {M : Type 1} → statement M
+check-readers-spec =
+    tie.close (tie.spec group-requires enum-known-refusal enum-told ids-requires returns returns-2)

@@ -1,0 +1,3 @@
+-- The file from k nodes.
+pub mod Calls
+pub mod Steps

@@ -1,0 +1,2 @@
+// The file from the pieces of k nodes.
+pub mod recovery;

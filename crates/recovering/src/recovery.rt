@@ -1,0 +1,138 @@
+// Recovery: the file from the pieces of k nodes.
+use group::Answer;
+use group::Check;
+use group::Group;
+use group::Refusal;
+use matrix::entries;
+use sequences::rows;
+ghost use mathlib.Core.Path.{_≡_};
+ghost use Prim.Native.Nat.{_+_, _-_, _*_, _≤_, min};
+ghost use Rattle.shifts.specs.Rule.{t};
+ghost use Rattle.group.specs.Answers.{checkNumber};
+ghost use Rattle.group.specs.Ranges.{longest};
+ghost use Rattle.recovering.specs.Calls.{readersRefusal, Recovered};
+ghost use Rattle.recovering.specs.Steps.Checked.{Readers};
+ghost use Rattle.sequences.specs.Steps.Rows.{RowsOf};
+ghost use Rattle.recovering.specs.Steps.Recovery.{entriesMost, columnMost, Collected, PushedRun, PushedInto, Pushed, Column, Stage};
+
+// Turns the pieces in `buffer`, laid out as the file, into the file, in place: the one file that has those pieces, for any letters whatever.
+// The answer is the number of letter additions. Refusals: 1, 2, 3 for an id outside 1..n or another number of ids than k,
+// 4 for ids that don't fall strictly, 5 for a buffer of another length than B*L. A refused call leaves `buffer` as it was.
+pub fn recover(g: Group, ids: &[usize], buffer: &mut [u8]) -> Answer
+    ensures { λ r. ⌜ Recovered g (now (ids .entry)) (now (buffer .entry)) (now (buffer .exit)) r ⌝ }
+{
+    match check_readers(g, ids) {
+        Check::Refused(refusal) => Answer::Refused(refusal),
+        Check::Fine => recover_exact(g, ids, buffer),
+    }
+}
+
+// The group and the ids: refusals 1 to 4.
+fn check_readers(g: Group, ids: &[usize]) -> Check
+    ensures { λ r. ⌜ checkNumber r ≡ readersRefusal g (now (ids .entry)) ⌝ }
+{
+    match group::checks::group(g) {
+        Check::Refused(refusal) => Check::Refused(refusal),
+        Check::Fine => group::checks::ids(g, g.k, ids),
+    }
+}
+
+// The same once these are right: refusal 5, and then the columns.
+fn recover_exact(g: Group, ids: &[usize], buffer: &mut [u8]) -> Answer
+    requires { ⌜ Readers g (now ids) ⌝ }
+    ensures { λ r. ⌜ Recovered g (now (ids .entry)) (now (buffer .entry)) (now (buffer .exit)) r ⌝ }
+{
+    let wanted = group::lengths::file(g);
+    if buffer.len() != wanted {
+        return Answer::Refused(Refusal::Input);
+    }
+    let rows = rows::shift_rows(ids);
+    Answer::Value(recover_columns(g, ids, &rows, buffer))
+}
+
+// The columns from the last one down: each is solved where it lies, and then taken out of the columns before it.
+fn recover_columns(g: Group, ids: &[usize], rows: &[usize], buffer: &mut [u8]) -> usize
+    requires { ⌜ (Collected g (now ids) (now buffer)) × (RowsOf t (now ids) (now rows)) ⌝ }
+    ensures { λ r. ⌜ Stage g (now (ids .entry)) 0 (now (buffer .entry)) (now (buffer .exit)) r ⌝ }
+{
+    let mut count: usize = 0;
+    let mut u = g.d;
+    while 0 < u {
+        count += recover_column(g, ids, rows, u, buffer);
+        u -= 1;
+    }
+    count
+}
+
+// Column `u`: its min(u,k) sequences are one part of the buffer.
+fn recover_column(g: Group, ids: &[usize], rows: &[usize], u: usize, buffer: &mut [u8]) -> usize
+    requires { ⌜ (Collected g (now ids) (now buffer)) × (RowsOf t (now ids) (now rows)) × (1 ≤ u) × (u ≤ g .d) ⌝ }
+    ensures { λ r. ⌜ Column g (now (ids .entry)) u (now (buffer .entry)) (now (buffer .exit)) r ⌝ }
+{
+    let s = letters::lesser(u, g.k);
+    let start = entries::sequences_before(g.k, u) * g.l;
+    let end = start + s * g.l;
+    let solved = solving::solve(&mut buffer[start..end], s, g.l, rows);
+    solved + push_column(g, ids, rows, u, buffer)
+}
+
+// Takes column `u`, which is solved, out of the columns before it: entry (w,c) loses m(c,u) moved by t(iw,u) - t(iw,w).
+fn push_column(g: Group, ids: &[usize], rows: &[usize], u: usize, buffer: &mut [u8]) -> usize
+    requires { ⌜ (Collected g (now ids) (now buffer)) × (RowsOf t (now ids) (now rows)) × (1 ≤ u) × (u ≤ g .d) ⌝ }
+    ensures { λ r. ⌜ Pushed g (now (ids .entry)) u (min (u - 1) (g .k)) (now (buffer .entry)) (now (buffer .exit)) r ⌝ }
+    ensures bound { λ r. ⌜ r ≤ columnMost ⌝ }
+{
+    let columns = letters::lesser(u - 1, g.k);
+    let mut count: usize = 0;
+    let mut c = 0;
+    while c < columns {
+        c += 1;
+        count += push_into(g, ids, rows, u, c, buffer);
+    }
+    count
+}
+
+// The same for one earlier column.
+fn push_into(
+    g: Group,
+    ids: &[usize],
+    rows: &[usize],
+    u: usize,
+    c: usize,
+    buffer: &mut [u8],
+) -> usize
+    requires { ⌜ (Collected g (now ids) (now buffer)) × (RowsOf t (now ids) (now rows)) × (1 ≤ c) × (c + 1 ≤ u) × (c ≤ g .k) × (u ≤ g .d) ⌝ }
+    ensures { λ r. ⌜ PushedInto g (now (ids .entry)) u c c (now (buffer .entry)) (now (buffer .exit)) r ⌝ }
+    ensures bound { λ r. ⌜ r ≤ entriesMost ⌝ }
+{
+    let mut count: usize = 0;
+    let mut w = 0;
+    while w < c {
+        w += 1;
+        count += push_run(g, ids, rows, u, c, w, buffer);
+    }
+    count
+}
+
+// The same for one entry of it. The shifts are read in the rows, so that the ids stand in the contract alone.
+fn push_run(
+    g: Group,
+    ids: &[usize],
+    rows: &[usize],
+    u: usize,
+    c: usize,
+    w: usize,
+    buffer: &mut [u8],
+) -> usize
+    requires { ⌜ (Collected g (now ids) (now buffer)) × (RowsOf t (now ids) (now rows)) × (1 ≤ w) × (w ≤ c) × (c + 1 ≤ u) × (c ≤ g .k) × (u ≤ g .d) ⌝ }
+    ensures { λ r. ⌜ PushedRun g (now (ids .entry)) u c w (now (buffer .entry)) (now (buffer .exit)) r ⌝ }
+    ensures bound { λ r. ⌜ r ≤ longest ⌝ }
+{
+    let moved = solving::place::shift_in(rows, w, u) - solving::place::shift_in(rows, w, w);
+    if g.l <= moved {
+        return 0;
+    }
+    let to = entries::free_start(g, w, c) + moved;
+    let from = entries::free_start(g, c, u);
+    letters::add_within(buffer, to, from, g.l - moved)
+}
