@@ -8,14 +8,6 @@ pub fn first<'a>(letters: &'a [u8], count: usize) -> &'a [u8] {
     &letters[0..count]
 }
 
-// The first letters, at most `most` of them.
-pub fn start<'a>(letters: &'a [u8], most: usize) -> &'a [u8] {
-    if letters.len() < most {
-        return letters;
-    }
-    &letters[0..most]
-}
-
 // The `count` letters from index `from` on.
 pub fn part<'a>(letters: &'a [u8], from: usize, count: usize) -> &'a [u8] {
     if letters.len() < from {
@@ -26,25 +18,6 @@ pub fn part<'a>(letters: &'a [u8], from: usize, count: usize) -> &'a [u8] {
     }
     let end = from + count;
     &letters[from..end]
-}
-
-// The first `count` ids.
-pub fn first_ids<'a>(ids: &'a [usize], count: usize) -> &'a [usize] {
-    if ids.len() < count {
-        return &ids[0..0];
-    }
-    &ids[0..count]
-}
-
-// The id of this rank, counted from 1; 0 where there is none.
-pub fn id_at(ids: &[usize], rank: usize) -> usize {
-    if rank == 0 {
-        return 0;
-    }
-    if ids.len() < rank {
-        return 0;
-    }
-    ids[rank - 1]
 }
 
 // Writes one letter at index at + i.
