@@ -1,4 +1,6 @@
 // Parts of slices. Where a slice is too short for what is asked, there is nothing to hand back and nothing to write.
+ghost use mathlib.Core.Path.{_≡_};
+ghost use lib.ListN.{length};
 
 // The first `count` letters.
 pub fn first<'a>(letters: &'a [u8], count: usize) -> &'a [u8] {
@@ -63,4 +65,41 @@ pub fn same(a: &[u8], b: &[u8]) -> bool {
         i += 1;
     }
     true
+}
+
+// The `count` letters from index `from` on, to be written to.
+pub fn part_mut<'a>(letters: &'a mut [u8], from: usize, count: usize) -> &'a mut [u8] {
+    if letters.len() < from {
+        return &mut letters[0..0];
+    }
+    if letters.len() - from < count {
+        return &mut letters[0..0];
+    }
+    let end = from + count;
+    &mut letters[from..end]
+}
+
+// A number as a letter.
+fn letter(number: usize) -> u8 {
+    (number % 256) as u8
+}
+
+// Writes numbers as letters, as many as there is room for.
+pub fn put_numbers(into: &mut [u8], numbers: &[usize]) {
+    let mut i = 0;
+    while i < into.len() {
+        if numbers.len() <= i {
+            return;
+        }
+        into[i] = letter(numbers[i]);
+        i += 1;
+    }
+}
+
+// A memory, or the room for a script's text: zeros, more than the 491,520 letters of the longest file. It is made here, once for all
+// programs, since the proof of a large array takes seconds.
+pub fn room() -> [u8; 600000]
+    ensures { λ r. ⌜ 600000 ≡ length r ⌝ }
+{
+    [0; 600000]
 }

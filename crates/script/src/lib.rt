@@ -8,8 +8,6 @@ mod reading;
 mod telling;
 
 pub use memory::begin;
-pub use memory::part_mut;
-pub use memory::room;
 pub use reading::line_end;
 pub use reading::rest;
 pub use telling::answer;

@@ -24,9 +24,9 @@ fn run(text: &[u8], a: &mut [u8], b: &mut [u8]) {
 }
 
 fn main() {
-    let mut text = script::room();
-    let mut a = script::room();
-    let mut b = script::room();
+    let mut text = lines::room();
+    let mut a = lines::room();
+    let mut b = lines::room();
     let count = io::read_full(STDIN_FILENO, &mut text);
     run(&text[..count], &mut a, &mut b);
 }
