@@ -58,8 +58,8 @@ class Script:
         self.b[b[0] : b[0] + count] = self.a[a[0] : a[0] + count]
         self.line(4, "take", a, b, "", "")
 
-    def show(self, a, b):
-        self.line(5, "show", a, b, "", hexes(" :", self.in_a(a)) + hexes(" :", self.in_b(b)))
+    def show(self, b):
+        self.line(5, "show", NONE, b, "", hexes(":", self.in_b(b)))
 
     def write(self, crate):
         for name, lines in (("stdin", self.stdin), ("stdout", self.stdout)):

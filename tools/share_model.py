@@ -14,7 +14,7 @@ import sys
 sys.dont_write_bytecode = True
 from script import NONE, Chooser, Script
 
-SCRIPT = Script(70000)
+SCRIPT = Script(600000)
 ANY = range(256)
 
 
@@ -176,10 +176,10 @@ def desk():
     SCRIPT.put((0, 2), NONE, [0x11, 0x50])
     size(head)
     write((0, 2), (0, 81), head)
-    SCRIPT.show(NONE, (0, 81))
+    SCRIPT.show((0, 81))
     SCRIPT.keep((0, 82), (0, 82))
     read((0, 81), (100, 2))
-    SCRIPT.show(NONE, (100, 2))
+    SCRIPT.show((100, 2))
     SCRIPT.heading("Its first bytes, from none to all, and one more")
     for count in range(83):
         judged((0, count))

@@ -1,7 +1,7 @@
 // A small generator: a multiplication and an addition modulo 2^31.
 
 // The number after x.
-pub fn next(x: usize) -> usize {
+fn next(x: usize) -> usize {
     (x % 2147483648 * 1103515245 + 12345) % 2147483648
 }
 

@@ -1,4 +1,6 @@
 // Parts of slices. Where a slice is too short for what is asked, there is nothing to hand back and nothing to write.
+ghost use mathlib.Core.Path.{_≡_};
+ghost use lib.ListN.{length};
 
 // The first `count` letters.
 pub fn first<'a>(letters: &'a [u8], count: usize) -> &'a [u8] {
@@ -6,14 +8,6 @@ pub fn first<'a>(letters: &'a [u8], count: usize) -> &'a [u8] {
         return &letters[0..0];
     }
     &letters[0..count]
-}
-
-// The first letters, at most `most` of them.
-pub fn start<'a>(letters: &'a [u8], most: usize) -> &'a [u8] {
-    if letters.len() < most {
-        return letters;
-    }
-    &letters[0..most]
 }
 
 // The `count` letters from index `from` on.
@@ -26,25 +20,6 @@ pub fn part<'a>(letters: &'a [u8], from: usize, count: usize) -> &'a [u8] {
     }
     let end = from + count;
     &letters[from..end]
-}
-
-// The first `count` ids.
-pub fn first_ids<'a>(ids: &'a [usize], count: usize) -> &'a [usize] {
-    if ids.len() < count {
-        return &ids[0..0];
-    }
-    &ids[0..count]
-}
-
-// The id of this rank, counted from 1; 0 where there is none.
-pub fn id_at(ids: &[usize], rank: usize) -> usize {
-    if rank == 0 {
-        return 0;
-    }
-    if ids.len() < rank {
-        return 0;
-    }
-    ids[rank - 1]
 }
 
 // Writes one letter at index at + i.
@@ -90,4 +65,41 @@ pub fn same(a: &[u8], b: &[u8]) -> bool {
         i += 1;
     }
     true
+}
+
+// The `count` letters from index `from` on, to be written to.
+pub fn part_mut<'a>(letters: &'a mut [u8], from: usize, count: usize) -> &'a mut [u8] {
+    if letters.len() < from {
+        return &mut letters[0..0];
+    }
+    if letters.len() - from < count {
+        return &mut letters[0..0];
+    }
+    let end = from + count;
+    &mut letters[from..end]
+}
+
+// A number as a letter.
+fn letter(number: usize) -> u8 {
+    (number % 256) as u8
+}
+
+// Writes numbers as letters, as many as there is room for.
+pub fn put_numbers(into: &mut [u8], numbers: &[usize]) {
+    let mut i = 0;
+    while i < into.len() {
+        if numbers.len() <= i {
+            return;
+        }
+        into[i] = letter(numbers[i]);
+        i += 1;
+    }
+}
+
+// A memory, or the room for a script's text: zeros, more than the 491,520 letters of the longest file. It is made here, once for all
+// programs, since the proof of a large array takes seconds.
+pub fn room() -> [u8; 600000]
+    ensures { λ r. ⌜ 600000 ≡ length r ⌝ }
+{
+    [0; 600000]
 }

@@ -1,6 +1,5 @@
 // Words, numbers and letters on standard output.
 use group::Answer;
-use group::Group;
 use libc::STDOUT_FILENO;
 
 pub fn say(words: &[u8]) {
@@ -44,25 +43,6 @@ pub fn letters(words: &[u8], letters: &[u8]) {
         letter(letters[i]);
         i += 1;
     }
-}
-
-// Some words, and the ids after them.
-pub fn ids(words: &[u8], ids: &[usize]) {
-    say(words);
-    let mut i = 0;
-    while i < ids.len() {
-        number(b" ", ids[i]);
-        i += 1;
-    }
-}
-
-// Some words, and the group's numbers after them.
-pub fn group(words: &[u8], g: Group) {
-    say(words);
-    number(b" [", g.n);
-    number(b",", g.k);
-    number(b",", g.d);
-    number(b"] L ", g.l);
 }
 
 // One step of the number that stands for many letters.

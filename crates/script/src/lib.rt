@@ -7,10 +7,8 @@ mod memory;
 mod reading;
 mod telling;
 
-pub use memory::part_mut;
-pub use memory::work;
+pub use memory::begin;
 pub use reading::line_end;
-pub use reading::numbers;
 pub use reading::rest;
 pub use telling::answer;
 pub use telling::sum;

@@ -73,7 +73,7 @@ fn read(found: &[usize; 32], from: &[u8], into: &mut [u8]) {
 // The call that a line names, on the slices that it names.
 pub fn call(found: &[usize; 32], a: &[u8], b: &mut [u8]) {
     let from = lines::part(a, found[1], found[2]);
-    let into = script::part_mut(b, found[3], found[4]);
+    let into = lines::part_mut(b, found[3], found[4]);
     if found[0] < 23 {
         written(found, from, into);
     } else {

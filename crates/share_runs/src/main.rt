@@ -4,18 +4,11 @@ mod calls;
 
 use libc::STDIN_FILENO;
 
-// One line: its words, and then what the operation gives. The operations below 10 are the memories' own.
+// One line: what isn't the memories' own is a call.
 fn line(words: &[u8], a: &mut [u8], b: &mut [u8]) {
     let mut found = [0usize; 32];
-    let count = script::numbers(words, &mut found);
-    lines::say(words);
-    if count == 0 {
-        lines::say(b"\n");
-        return;
-    }
-    if found[0] < 10 {
-        script::work(&found, count, a, b);
-    } else {
+    let count = script::begin(words, &mut found, a, b);
+    if 0 < count {
         calls::call(&found, a, b);
     }
 }
@@ -30,11 +23,10 @@ fn run(text: &[u8], a: &mut [u8], b: &mut [u8]) {
     }
 }
 
-// The longest share has 65,666 bytes.
 fn main() {
-    let mut text = [0u8; 400000];
-    let mut a = [0u8; 70000];
-    let mut b = [0u8; 70000];
+    let mut text = lines::room();
+    let mut a = lines::room();
+    let mut b = lines::room();
     let count = io::read_full(STDIN_FILENO, &mut text);
     run(&text[..count], &mut a, &mut b);
 }

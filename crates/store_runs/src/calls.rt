@@ -50,7 +50,7 @@ fn answered(found: &[usize; 32], count: usize, from: &[u8], into: &mut [u8]) -> 
 // The call that a line names, on the slices that it names.
 pub fn call(found: &[usize; 32], count: usize, a: &[u8], b: &mut [u8]) {
     let from = lines::part(a, found[1], found[2]);
-    let into = script::part_mut(b, found[3], found[4]);
+    let into = lines::part_mut(b, found[3], found[4]);
     script::answer(answered(found, count, from, into));
     script::sum(into);
 }

@@ -3,6 +3,7 @@ use mathlib.Core.Path.{_≡_}
 use Prim.Native.Nat.{_+_, _-_, _≤_}
 use lib.ListN.{length}
 use borrow.Author.Needs.{needs}
+use native.Mathlib.Omega.{arith}
 use Rattle.store_runs.proofs.run.Statement.{statement}
 use Rattle.store_runs.proofs.run.Tie as tie
 
@@ -13,37 +14,37 @@ abbrev μ-loop : tie.MeasureT-loop
 μ-loop text a₀ b₀ at₀ a b at = length text + 1 - at
 
 loop-holds : tie.Need-loop-holds Inv-loop μ-loop
-loop-holds c = search needs
+loop-holds c = omega arith
 
 line-end-requires : tie.Need-line-end-requires Inv-loop μ-loop
-line-end-requires c κs = search needs
+line-end-requires c κs = omega arith
 
 sub-line : tie.Need-sub-line Inv-loop μ-loop
-sub-line c = search needs
+sub-line c = omega arith
 
 part-line-start : tie.Need-part-line-start Inv-loop μ-loop
-part-line-start c = search needs
+part-line-start c = omega arith
 
 part-line-end : tie.Need-part-line-end Inv-loop μ-loop
-part-line-end c = search needs
+part-line-end c = omega arith
 
 line-requires : tie.Need-line-requires Inv-loop μ-loop
 line-requires c κs = search needs
 
 add-at : tie.Need-add-at Inv-loop μ-loop
-add-at c = search needs
+add-at c = omega arith
 
 loop-less : tie.Need-loop-less Inv-loop μ-loop
-loop-less c = search needs
+loop-less c = omega arith
 
 loop-again : tie.Need-loop-again Inv-loop μ-loop
-loop-again c = search needs
+loop-again c = omega arith
 
 same-length : tie.Need-same-length Inv-loop μ-loop
-same-length c = search needs
+same-length c = omega arith
 
 same-length-2 : tie.Need-same-length-2 Inv-loop μ-loop
-same-length-2 c = search needs
+same-length-2 c = omega arith
 
 returns : tie.Need-returns Inv-loop μ-loop
 returns c = search needs

@@ -1,11 +1,11 @@
--- `memory::put_numbers` is safe: the index stays within the slice, whose length is kept.
+-- `parts::put_numbers` is safe: the index stays within the slice, whose length is kept.
 use mathlib.Core.Path.{_≡_}
 use Prim.Native.Nat.{_-_, _≤_}
 use lib.ListN.{length, length-set}
 use borrow.Author.Needs.{needs}
 use native.Mathlib.Omega.{arith}
-use Rattle.script.proofs.memory.put_numbers.Statement.{statement}
-use Rattle.script.proofs.memory.put_numbers.Tie as tie
+use Rattle.lines.proofs.parts.put_numbers.Statement.{statement}
+use Rattle.lines.proofs.parts.put_numbers.Tie as tie
 
 abbrev Inv-loop : tie.InvT-loop
 Inv-loop into₀ numbers i₀ into i = (i ≤ length into₀) × (length into ≡ length into₀)
