@@ -1,5 +1,5 @@
 #!/usr/bin/env python3
-"""The script that crates/share_runs runs and what it must write, worked out from document 01 alone, without the store's
+"""The script that crates/share_runs runs and what it must write, worked out from document 01 (docs/SCHEME.md, 9 and 11) alone, without the store's
 code. From the root of the repository this makes both files again, crates/share_runs/stdin and stdout:
 
     tools/share_model.py
