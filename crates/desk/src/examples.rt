@@ -3,12 +3,7 @@ use group::Group;
 
 // [3,2,2] with sequences of l letters.
 pub fn desk(l: usize) -> Group {
-    Group {
-        n: 3,
-        k: 2,
-        d: 2,
-        l,
-    }
+    group::of(3, 2, 2, l)
 }
 
 // Both hold.

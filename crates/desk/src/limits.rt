@@ -44,29 +44,24 @@ fn ids(count: usize, words: &[u8], ids: &[usize], wanted: usize) -> usize {
     verdict(count, words, group::answer_number(answer), wanted)
 }
 
-// A group's four numbers.
-fn of(n: usize, k: usize, d: usize, l: usize) -> Group {
-    Group { n, k, d, l }
-}
-
 fn nodes(count: usize) -> usize {
-    let three = group(count, b"n 3", of(3, 2, 2, 1), 0);
-    let sixteen = group(three, b"n 16", of(16, 2, 2, 1), 0);
-    let two = group(sixteen, b"n 2", of(2, 2, 2, 1), 1);
-    group(two, b"n 17", of(17, 2, 2, 1), 1)
+    let three = group(count, b"n 3", group::of(3, 2, 2, 1), 0);
+    let sixteen = group(three, b"n 16", group::of(16, 2, 2, 1), 0);
+    let two = group(sixteen, b"n 2", group::of(2, 2, 2, 1), 1);
+    group(two, b"n 17", group::of(17, 2, 2, 1), 1)
 }
 
 fn helpers(count: usize) -> usize {
-    let most = group(count, b"n 5, d = n-1", of(5, 2, 4, 1), 0);
-    let more = group(most, b"n 5, d = n", of(5, 2, 5, 1), 1);
-    group(more, b"n 5, k = d", of(5, 3, 3, 1), 0)
+    let most = group(count, b"n 5, d = n-1", group::of(5, 2, 4, 1), 0);
+    let more = group(most, b"n 5, d = n", group::of(5, 2, 5, 1), 1);
+    group(more, b"n 5, k = d", group::of(5, 3, 3, 1), 0)
 }
 
 fn lengths(count: usize) -> usize {
-    let one = group(count, b"L 1", of(3, 2, 2, 1), 0);
-    let most = group(one, b"L 4096", of(3, 2, 2, 4096), 0);
-    let none = group(most, b"L 0", of(3, 2, 2, 0), 2);
-    group(none, b"L 4097", of(3, 2, 2, 4097), 2)
+    let one = group(count, b"L 1", group::of(3, 2, 2, 1), 0);
+    let most = group(one, b"L 4096", group::of(3, 2, 2, 4096), 0);
+    let none = group(most, b"L 0", group::of(3, 2, 2, 0), 2);
+    group(none, b"L 4097", group::of(3, 2, 2, 4097), 2)
 }
 
 pub fn all(count: usize) -> usize {

@@ -2,7 +2,6 @@
 use crate::examples;
 use crate::limits;
 use crate::shares;
-use group::Group;
 
 // 1, 2, 3, 5 and 6, of encoding in [3,2,2] with L = 2, where a file has 6 letters and node 1 holds 4.
 fn encode(
@@ -19,7 +18,7 @@ fn encode(
 
 // [3,2,d], L, with the lengths that the group gives.
 fn group(count: usize, words: &[u8], d: usize, l: usize, wanted: usize) -> usize {
-    let g = Group { n: 3, k: 2, d, l };
+    let g = group::of(3, 2, d, l);
     let file = lines::value(group::file_letters(g));
     let held = lines::value(group::packet_letters(g, 1));
     limits::verdict(count, words, limits::encode(g, 1, file, held), wanted)

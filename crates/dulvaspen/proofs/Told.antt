@@ -5,11 +5,15 @@ use Prim.Native.Nat.{ℕ, zero, suc}
 use Rattle.group.specs.declared.Group.{Group}
 use Rattle.group.specs.declared.Refusal.{Refusal}
 use Rattle.group.specs.declared.Answer.{Answer}
-use Rattle.group.specs.Answers.{numberOf, valueOf, ifFine, Answers}
+use Rattle.group.specs.Answers.{Called, numberOf, valueOf, ifFine, Answers}
 use Rattle.group.proofs.Refusals.{numbered, if-refused}
 use Rattle.recovering.specs.Calls.{Recovered}
 use Rattle.rebuilding.specs.Calls.{Repaired}
-use Rattle.dulvaspen.specs.Exports.{Tells, Recovers, Repairs}
+use Rattle.layout.specs.Share.{shareOf}
+use Rattle.heads.specs.declared.Head.{Head}
+use Rattle.heads.specs.Heads.{heads}
+use Rattle.share.specs.Calls.{Writes}
+use Rattle.dulvaspen.specs.Exports.{Tells, Fills, Recovers, Repairs}
 
 -- a value stands in the lent number
 pub value-told : (a : Answer) (v m : ℕ) → a ≡ Answer.Value v → v ≡ ifFine (numberOf a) (valueOf a) m
@@ -42,3 +46,12 @@ pub repairs-of :
     → count′ ≡ ifFine (numberOf a) (valueOf a) count → Repairs g lost helpers before after count count′ r
 repairs-of g lost helpers before after a count count′ r done e h =
     record { tells = tells-of a _ _ count count′ r (done .answer) e h; same-length = done .same-length; holds = done .holds }
+
+pub fills-of :
+    (a : Answer) (q v : ℕ) (right before after : List ℕ) (r : ℕ) → Called q v right before after a → r ≡ numberOf a → Fills q right before after r
+fills-of a q v right before after r done e = record { returned = e ∙ done .answer .number; holds = done .holds }
+
+pub wrote-of :
+    (h : Head) (letters before after : List ℕ) (q : ℕ) (a : Answer) (r : ℕ) → Writes h letters before q a after → r ≡ numberOf a
+    → Fills q (shareOf heads h letters) before after r
+wrote-of h letters before after q a r done e = record { returned = e ∙ done .answered .number; holds = done .held }

@@ -1,6 +1,5 @@
 // Every length that a caller has to lend.
 use crate::answers;
-use group::Group;
 ghost use Rattle.group.specs.Ranges.{groupRefusal, nodeRefusal};
 ghost use Rattle.group.specs.Lengths.{fileLetters, nodeLetters, repairLetters};
 ghost use Rattle.share.specs.Calls.{shareBytes};
@@ -18,7 +17,7 @@ pub extern "C" fn dulvaspen_file_letters(
 ) -> usize
     ensures { λ r. ⌜ Tells (groupRefusal (groupOf n k d l)) (fileLetters (groupOf n k d l)) (now (letters .entry)) (now (letters .exit)) r ⌝ }
 {
-    answers::tell(group::file_letters(Group { n, k, d, l }), letters)
+    answers::tell(group::file_letters(group::of(n, k, d, l)), letters)
 }
 
 // The letters that a node holds, T. Refusals: 1, 2, 3.
@@ -33,7 +32,7 @@ pub extern "C" fn dulvaspen_packet_letters(
 ) -> usize
     ensures { λ r. ⌜ Tells (nodeRefusal (groupOf n k d l) node) (nodeLetters (groupOf n k d l) node) (now (letters .entry)) (now (letters .exit)) r ⌝ }
 {
-    let g = Group { n, k, d, l };
+    let g = group::of(n, k, d, l);
     answers::tell(group::packet_letters(g, node), letters)
 }
 
@@ -49,7 +48,7 @@ pub extern "C" fn dulvaspen_repair_letters(
 ) -> usize
     ensures { λ r. ⌜ Tells (nodeRefusal (groupOf n k d l) lost) (repairLetters (groupOf n k d l) lost) (now (letters .entry)) (now (letters .exit)) r ⌝ }
 {
-    let g = Group { n, k, d, l };
+    let g = group::of(n, k, d, l);
     answers::tell(group::repair_letters(g, lost), letters)
 }
 
@@ -65,6 +64,6 @@ pub extern "C" fn dulvaspen_share_bytes(
 ) -> usize
     ensures { λ r. ⌜ Tells (nodeRefusal (groupOf n k d l) node) (shareBytes (groupOf n k d l) node) (now (bytes .entry)) (now (bytes .exit)) r ⌝ }
 {
-    let g = Group { n, k, d, l };
+    let g = group::of(n, k, d, l);
     answers::tell(share::share_bytes(g, node), bytes)
 }

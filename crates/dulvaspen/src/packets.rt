@@ -1,6 +1,5 @@
 // Packets, pieces, recovery and repair.
 use crate::answers;
-use group::Group;
 ghost use Prim.Native.Nat.{_+_, _-_, _*_};
 ghost use lib.ListN.{length};
 ghost use Rattle.letters.specs.Algebra.{xors};
@@ -26,7 +25,7 @@ pub extern "C" fn dulvaspen_encode(
 ) -> usize
     ensures { λ r. ⌜ Fills (encodeRefusal (groupOf n k d l) node (length (now (file .entry))) (length (now (packets .entry)))) (product xors (groupOf n k d l) (now (file .entry)) node) (now (packets .entry)) (now (packets .exit)) r ⌝ }
 {
-    let g = Group { n, k, d, l };
+    let g = group::of(n, k, d, l);
     group::answer_number(store::encoding::encode(g, node, file, packets))
 }
 
@@ -45,7 +44,7 @@ pub extern "C" fn dulvaspen_piece(
 ) -> usize
     ensures { λ r. ⌜ Tells (pieceRefusal (groupOf n k d l) node rank column (length (now (packets .entry)))) (packetStart (groupOf n k d l) node column + t node rank) (now (start .entry)) (now (start .exit)) r ⌝ }
 {
-    let g = Group { n, k, d, l };
+    let g = group::of(n, k, d, l);
     answers::tell(
         store::pieces::piece_start(g, node, rank, column, packets.len()),
         start,
@@ -65,7 +64,7 @@ pub extern "C" fn dulvaspen_entry(
 ) -> usize
     ensures { λ r. ⌜ Tells (entryRefusal (groupOf n k d l) rank column) ((entryNumber k rank column - 1) * l) (now (start .entry)) (now (start .exit)) r ⌝ }
 {
-    let g = Group { n, k, d, l };
+    let g = group::of(n, k, d, l);
     answers::tell(store::pieces::entry(g, rank, column), start)
 }
 
@@ -83,7 +82,7 @@ pub extern "C" fn dulvaspen_recover(
     ensures { λ r. ⌜ Recovers (groupOf n k d l) (now (ids .entry)) (now (buffer .entry)) (now (buffer .exit)) (now (count .entry)) (now (count .exit)) r ⌝ }
 {
     answers::tell(
-        store::recovery::recover(Group { n, k, d, l }, ids, buffer),
+        store::recovery::recover(group::of(n, k, d, l), ids, buffer),
         count,
     )
 }
@@ -103,7 +102,7 @@ pub extern "C" fn dulvaspen_help(
 ) -> usize
     ensures { λ r. ⌜ Fills (helpRefusal (groupOf n k d l) lost helper rank (length (now (packets .entry))) (length (now (piece .entry)))) (helping xors (groupOf n k d l) lost helper rank (now (packets .entry))) (now (piece .entry)) (now (piece .exit)) r ⌝ }
 {
-    let g = Group { n, k, d, l };
+    let g = group::of(n, k, d, l);
     group::answer_number(store::helping::help(g, lost, helper, rank, packets, piece))
 }
 
@@ -121,6 +120,6 @@ pub extern "C" fn dulvaspen_repair(
 ) -> usize
     ensures { λ r. ⌜ Repairs (groupOf n k d l) lost (now (helpers .entry)) (now (buffer .entry)) (now (buffer .exit)) (now (count .entry)) (now (count .exit)) r ⌝ }
 {
-    let g = Group { n, k, d, l };
+    let g = group::of(n, k, d, l);
     answers::tell(store::repairing::repair(g, lost, helpers, buffer), count)
 }

@@ -1,5 +1,4 @@
 // Shares: written, read and judged.
-use group::Group;
 use heads::Head;
 use share::Judgment;
 ghost use mathlib.Core.Path.{_≡_};
@@ -25,7 +24,7 @@ pub extern "C" fn dulvaspen_write_share(
 ) -> usize
     ensures { λ r. ⌜ Fills (writeRefusal (headFor (groupOf n k d l) node batch) (length (now (packets .entry))) (length (now (share .entry)))) (shareOf heads (headFor (groupOf n k d l) node batch) (now (packets .entry))) (now (share .entry)) (now (share .exit)) r ⌝ }
 {
-    let g = Group { n, k, d, l };
+    let g = group::of(n, k, d, l);
     group::answer_number(share::write(g, node, batch, packets, share))
 }
 

@@ -1,7 +1,6 @@
 // The head of document 01 (docs/SCHEME.md, 9), kind 1. All that the code knows of its bytes stands here.
 use crate::Head;
 use group::Answer;
-use group::Group;
 use group::checks;
 use records::numbers;
 ghost use mathlib.Core.Path.{_≡_};
@@ -28,12 +27,12 @@ pub fn head_in(share: &[u8]) -> Head
         numbers::byte_at(share, 9),
         numbers::byte_at(share, 10),
     );
-    let group = Group {
-        n: numbers::byte_at(share, 1),
-        k: numbers::byte_at(share, 2),
-        d: numbers::byte_at(share, 3),
+    let group = group::of(
+        numbers::byte_at(share, 1),
+        numbers::byte_at(share, 2),
+        numbers::byte_at(share, 3),
         l,
-    };
+    );
     Head {
         group,
         node: numbers::byte_at(share, 4),

@@ -5,12 +5,7 @@ use share::Judgment;
 
 // [6,3,4] with sequences of 16 letters, so that a batch has 144.
 pub fn group_of_six() -> Group {
-    Group {
-        n: 6,
-        k: 3,
-        d: 4,
-        l: 16,
-    }
+    group::of(6, 3, 4, 16)
 }
 
 // T of a node.

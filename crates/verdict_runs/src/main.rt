@@ -13,12 +13,7 @@ fn show(words: &[u8], bytes: &[u8]) {
 
 // P9 to P12: [3,2,2], L = 1, node 1, batch 7.
 fn examples() {
-    let g = Group {
-        n: 3,
-        k: 2,
-        d: 2,
-        l: 1,
-    };
+    let g = group::of(3, 2, 2, 1);
     let mut share = [0u8; 81];
     share::write(g, 1, 7, &[0x11, 0x50], &mut share);
     show(b"P9: ", &share);
@@ -31,12 +26,7 @@ fn examples() {
 
 // [16,15,15], L = 4,096.
 fn largest() -> Group {
-    Group {
-        n: 16,
-        k: 15,
-        d: 15,
-        l: 4096,
-    }
+    group::of(16, 15, 15, 4096)
 }
 
 // Node 1's share, of 62,416 bytes, with the last batch number.

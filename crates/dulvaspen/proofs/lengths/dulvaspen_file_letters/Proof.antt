@@ -4,6 +4,9 @@ use borrow.Author.Needs.{needs}
 use Rattle.dulvaspen.proofs.lengths.dulvaspen_file_letters.Statement.{statement}
 use Rattle.dulvaspen.proofs.lengths.dulvaspen_file_letters.Tie as tie
 
+of-requires : tie.Need-of-requires
+of-requires c κs = search needs
+
 file-letters-requires : tie.Need-file-letters-requires
 file-letters-requires c κs = search needs
 
@@ -11,7 +14,7 @@ tell-requires : tie.Need-tell-requires
 tell-requires c κs = search needs
 
 returns : tie.Need-returns
-returns c = tells-of _ _ _ _ _ _ (c .before .before .file-letters .ensures) (c .tell .ensures .0) (c .tell .ensures .1)
+returns c = rw (c .before .before .before .of .ensures) at (tells-of _ _ _ _ _ _ (c .before .before .file-letters .ensures) (c .tell .ensures .0) (c .tell .ensures .1))
 
 pub dulvaspen-file-letters-spec : {M : Type 1} → statement M
-dulvaspen-file-letters-spec = tie.close (tie.spec file-letters-requires tell-requires returns)
+dulvaspen-file-letters-spec = tie.close (tie.spec of-requires file-letters-requires tell-requires returns)

@@ -4,6 +4,9 @@ use borrow.Author.Needs.{needs}
 use Rattle.dulvaspen.proofs.lengths.dulvaspen_repair_letters.Statement.{statement}
 use Rattle.dulvaspen.proofs.lengths.dulvaspen_repair_letters.Tie as tie
 
+of-requires : tie.Need-of-requires
+of-requires c κs = search needs
+
 repair-letters-requires : tie.Need-repair-letters-requires
 repair-letters-requires c κs = search needs
 
@@ -11,7 +14,7 @@ tell-requires : tie.Need-tell-requires
 tell-requires c κs = search needs
 
 returns : tie.Need-returns
-returns c = tells-of _ _ _ _ _ _ (c .before .before .repair-letters .ensures) (c .tell .ensures .0) (c .tell .ensures .1)
+returns c = rw (c .before .before .before .of .ensures) at (tells-of _ _ _ _ _ _ (c .before .before .repair-letters .ensures) (c .tell .ensures .0) (c .tell .ensures .1))
 
 pub dulvaspen-repair-letters-spec : {M : Type 1} → statement M
-dulvaspen-repair-letters-spec = tie.close (tie.spec repair-letters-requires tell-requires returns)
+dulvaspen-repair-letters-spec = tie.close (tie.spec of-requires repair-letters-requires tell-requires returns)

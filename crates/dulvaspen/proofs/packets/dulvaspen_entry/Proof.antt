@@ -4,6 +4,9 @@ use borrow.Author.Needs.{needs}
 use Rattle.dulvaspen.proofs.packets.dulvaspen_entry.Statement.{statement}
 use Rattle.dulvaspen.proofs.packets.dulvaspen_entry.Tie as tie
 
+of-requires : tie.Need-of-requires
+of-requires c κs = search needs
+
 entry-requires : tie.Need-entry-requires
 entry-requires c κs = search needs
 
@@ -11,7 +14,7 @@ tell-requires : tie.Need-tell-requires
 tell-requires c κs = search needs
 
 returns : tie.Need-returns
-returns c = tells-of _ _ _ _ _ _ (c .before .before .entry .ensures) (c .tell .ensures .0) (c .tell .ensures .1)
+returns c = rw (c .before .before .before .of .ensures) at (tells-of _ _ _ _ _ _ (c .before .before .entry .ensures) (c .tell .ensures .0) (c .tell .ensures .1))
 
 pub dulvaspen-entry-spec : {M : Type 1} → statement M
-dulvaspen-entry-spec = tie.close (tie.spec entry-requires tell-requires returns)
+dulvaspen-entry-spec = tie.close (tie.spec of-requires entry-requires tell-requires returns)

@@ -4,6 +4,9 @@ use borrow.Author.Needs.{needs}
 use Rattle.dulvaspen.proofs.packets.dulvaspen_piece.Statement.{statement}
 use Rattle.dulvaspen.proofs.packets.dulvaspen_piece.Tie as tie
 
+of-requires : tie.Need-of-requires
+of-requires c κs = search needs
+
 piece-start-requires : tie.Need-piece-start-requires
 piece-start-requires c κs = search needs
 
@@ -11,7 +14,7 @@ tell-requires : tie.Need-tell-requires
 tell-requires c κs = search needs
 
 returns : tie.Need-returns
-returns c = tells-of _ _ _ _ _ _ (c .before .before .piece-start .ensures) (c .tell .ensures .0) (c .tell .ensures .1)
+returns c = rw (c .before .before .before .of .ensures) at (tells-of _ _ _ _ _ _ (c .before .before .piece-start .ensures) (c .tell .ensures .0) (c .tell .ensures .1))
 
 pub dulvaspen-piece-spec : {M : Type 1} → statement M
-dulvaspen-piece-spec = tie.close (tie.spec piece-start-requires tell-requires returns)
+dulvaspen-piece-spec = tie.close (tie.spec of-requires piece-start-requires tell-requires returns)

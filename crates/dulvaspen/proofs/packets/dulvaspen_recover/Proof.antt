@@ -4,6 +4,9 @@ use borrow.Author.Needs.{needs}
 use Rattle.dulvaspen.proofs.packets.dulvaspen_recover.Statement.{statement}
 use Rattle.dulvaspen.proofs.packets.dulvaspen_recover.Tie as tie
 
+of-requires : tie.Need-of-requires
+of-requires c κs = search needs
+
 recover-requires : tie.Need-recover-requires
 recover-requires c κs = search needs
 
@@ -14,7 +17,7 @@ same-length : tie.Need-same-length
 same-length c = search needs
 
 returns : tie.Need-returns
-returns c = recovers-of _ _ _ _ _ _ _ _ (c .before .before .before .before .recover .ensures) (c .tell .ensures .0) (c .tell .ensures .1)
+returns c = rw (c .before .before .before .before .before .before .of .ensures) at (recovers-of _ _ _ _ _ _ _ _ (c .before .before .before .before .recover .ensures) (c .tell .ensures .0) (c .tell .ensures .1))
 
 pub dulvaspen-recover-spec : {M : Type 1} → statement M
-dulvaspen-recover-spec = tie.close (tie.spec recover-requires tell-requires same-length returns)
+dulvaspen-recover-spec = tie.close (tie.spec of-requires recover-requires tell-requires same-length returns)

@@ -4,6 +4,9 @@ use borrow.Author.Needs.{needs}
 use Rattle.dulvaspen.proofs.packets.dulvaspen_repair.Statement.{statement}
 use Rattle.dulvaspen.proofs.packets.dulvaspen_repair.Tie as tie
 
+of-requires : tie.Need-of-requires
+of-requires c κs = search needs
+
 repair-requires : tie.Need-repair-requires
 repair-requires c κs = search needs
 
@@ -14,7 +17,7 @@ same-length : tie.Need-same-length
 same-length c = search needs
 
 returns : tie.Need-returns
-returns c = repairs-of _ _ _ _ _ _ _ _ _ (c .before .before .before .before .repair .ensures) (c .tell .ensures .0) (c .tell .ensures .1)
+returns c = rw (c .before .before .before .before .before .before .of .ensures) at (repairs-of _ _ _ _ _ _ _ _ _ (c .before .before .before .before .repair .ensures) (c .tell .ensures .0) (c .tell .ensures .1))
 
 pub dulvaspen-repair-spec : {M : Type 1} → statement M
-dulvaspen-repair-spec = tie.close (tie.spec repair-requires tell-requires same-length returns)
+dulvaspen-repair-spec = tie.close (tie.spec of-requires repair-requires tell-requires same-length returns)

@@ -3,8 +3,10 @@ use mathlib.Core.Path.{_≡_, ap₂, _∙_}
 use mathlib.Core.List.{List}
 use Prim.Native.Nat.{ℕ}
 use lib.ListN.{getD}
+use Rattle.group.specs.declared.Group.{Group}
 use Rattle.group.specs.Ranges.{groupOf}
 use Rattle.records.specs.Records.{pair, four}
+use Rattle.heads.specs.declared.Head.{Head}
 use Rattle.heads.specs.Kind1.{kind1In}
 use borrow.Author.Needs.{needs}
 use Rattle.heads.proofs.kind1.head_in.Statement.{statement}
@@ -17,6 +19,12 @@ read :
     → record { group = groupOf n k d l; node = i; batch = batch } ≡ kind1In xs
 unfolding kind1In
 read xs n k d i l batch en ek ed ei el eb = rw (en, ek, ed, ei, el, eb)
+
+-- and of a group that is the group of these
+made :
+    (g g′ : Group) (i batch : ℕ) (h : Head) → g ≡ g′ → record { group = g′; node = i; batch = batch } ≡ h
+    → record { group = g; node = i; batch = batch } ≡ h
+made g g′ i batch h e same = rw e same
 
 same-four : (a b c d a′ b′ c′ d′ : ℕ) → a ≡ a′ → b ≡ b′ → c ≡ c′ → d ≡ d′ → four a b c d ≡ four a′ b′ c′ d′
 same-four a b c d a′ b′ c′ d′ ea eb ec ed = rw (ea, eb, ec, ed)
@@ -54,15 +62,19 @@ byte-at-requires-8 c κs = search needs
 byte-at-requires-9 : tie.Need-byte-at-requires-9
 byte-at-requires-9 c κs = search needs
 
+of-requires : tie.Need-of-requires
+of-requires c κs = search needs
+
 byte-at-requires-10 : tie.Need-byte-at-requires-10
 byte-at-requires-10 c κs = search needs
 
 returns : tie.Need-returns
 returns c =
-    read _ _ _ _ _ _ _ (c .before .before .before .byte-at7 .ensures .0) (c .before .before .byte-at8 .ensures .0) (c .before .byte-at9 .ensures .0) (c .byte-at10 .ensures .0)
-    (c .before .before .before .before .before .before .before .before .before .pair .ensures ∙ ap₂ pair (c .before .before .before .before .before .before .before .before .before .before .before .byte-at .ensures .0) (c .before .before .before .before .before .before .before .before .before .before .byte-at2 .ensures .0))
-    (c .before .before .before .before .four .ensures
-    ∙ same-four _ _ _ _ _ _ _ _ (c .before .before .before .before .before .before .before .before .byte-at3 .ensures .0) (c .before .before .before .before .before .before .before .byte-at4 .ensures .0) (c .before .before .before .before .before .before .byte-at5 .ensures .0) (c .before .before .before .before .before .byte-at6 .ensures .0))
+    made _ _ _ _ _ (c .before .of .ensures)
+    (read _ _ _ _ _ _ _ (c .before .before .before .before .byte-at7 .ensures .0) (c .before .before .before .byte-at8 .ensures .0) (c .before .before .byte-at9 .ensures .0) (c .byte-at10 .ensures .0)
+    (c .before .before .before .before .before .before .before .before .before .before .pair .ensures ∙ ap₂ pair (c .before .before .before .before .before .before .before .before .before .before .before .before .byte-at .ensures .0) (c .before .before .before .before .before .before .before .before .before .before .before .byte-at2 .ensures .0))
+    (c .before .before .before .before .before .four .ensures
+    ∙ same-four _ _ _ _ _ _ _ _ (c .before .before .before .before .before .before .before .before .before .byte-at3 .ensures .0) (c .before .before .before .before .before .before .before .before .byte-at4 .ensures .0) (c .before .before .before .before .before .before .before .byte-at5 .ensures .0) (c .before .before .before .before .before .before .byte-at6 .ensures .0)))
 
 pub head-in-spec : {M : Type 1} → statement M
 head-in-spec =
@@ -79,5 +91,6 @@ head-in-spec =
     byte-at-requires-7
     byte-at-requires-8
     byte-at-requires-9
+    of-requires
     byte-at-requires-10
     returns)
