@@ -5,7 +5,7 @@ code. From the root of the repository this makes both files again, crates/share_
     tools/share_model.py
 
 A share is a list of what may stand at each index: one byte, or any byte where a letter stands. Bytes are a share if they
-are as many and each may stand there; they are the beginning of one if some head of document 01's ranges, whose own bytes
+are as many and each may stand there; they are the beginning of one if some head of document 01's ranges (docs/SCHEME.md, 1), whose own bytes
 begin with theirs, has a share that they are fewer than and may stand in. Every head is tried, by listing all of them.
 tools/script.py has the memories.
 """
@@ -40,7 +40,7 @@ def records_after_head(letters):
     return may + [[byte] for byte in [4] + number(letters, 4)]
 
 
-# every head of document 01's ranges but for its batch, which may be any: what stands before L, and L itself
+# every head of document 01's ranges (docs/SCHEME.md, 1) but for its batch, which may be any: what stands before L, and L itself
 STARTS = [(1, n, k, d, node) for n in range(3, 17) for d in range(2, n) for k in range(2, d + 1) for node in range(1, n + 1)
           if in_range(n, k, d)]
 START_PREFIXES = {start[:count] for start in STARTS for count in range(6)}
@@ -103,7 +103,7 @@ def refusal(n, k, d, node, length):
     return 0
 
 
-# the calls: each makes its line, and leaves in B what document 01 says. A head is n, k, d, node, L and the batch number
+# the calls: each makes its line, and leaves in B what document 01 says (docs/SCHEME.md, 9 and 11). A head is n, k, d, node, L and the batch number
 
 
 def named(head):

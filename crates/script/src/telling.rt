@@ -7,7 +7,7 @@ pub fn sum(letters: &[u8]) {
     lines::say(b"\n");
 }
 
-// An answer: its number in document 01's table, 0 where nothing is refused, and its value.
+// An answer: its number in the table of document 01 (docs/SCHEME.md, 11), 0 where nothing is refused, and its value.
 pub fn answer(answer: Answer) {
     lines::number(b": ", group::answer_number(answer));
     lines::number(b" value ", lines::value(answer));

@@ -1,7 +1,7 @@
 // An operation for each call.
 use share::Judgment;
 
-// A judgment: its number in document 01's table, 0 for a share, and the share's head.
+// A judgment: its number in the table of document 01 (docs/SCHEME.md, 11), 0 for a share, and the share's head.
 fn judgment(judgment: Judgment) {
     match judgment {
         Judgment::Complete(head) => {

@@ -1,5 +1,5 @@
 // Runs the share's calls as the script on standard input says, and writes each line again with what comes back. tools/share_model.py makes
-// the script and what must be written, from document 01 alone.
+// the script and what must be written, from document 01 (docs/SCHEME.md, 9) alone.
 mod calls;
 
 use libc::STDIN_FILENO;

@@ -1,5 +1,5 @@
 // Runs the store's calls as the script on standard input says, and writes each line again with what comes back. tools/store_model makes the
-// script and what must be written, from document 01 alone and by elimination.
+// script and what must be written, from document 01 (docs/SCHEME.md) alone and by elimination.
 mod calls;
 
 use libc::STDIN_FILENO;
