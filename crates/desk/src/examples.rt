@@ -21,7 +21,7 @@ fn show(words: &[u8], held: &[u8]) {
 // Encodes a node into the first letters of `space`, shows what it holds and compares.
 fn encode(count: usize, words: &[u8], node: usize, space: &mut [u8], wanted: &[u8]) -> usize {
     let file = [0x01u8, 0x02, 0x10, 0x20, 0x40, 0x80];
-    let letters = lines::value(group::packet_letters(desk(2), node));
+    let letters = lines::value(lengths::packet_letters(desk(2), node));
     if space.len() < letters {
         return count;
     }

@@ -32,8 +32,8 @@ pub fn encode(g: Group, node: usize, file_letters: usize, letters: usize) -> usi
 
 // A line for a group: node 1 encoded, with the lengths that the group gives.
 fn group(count: usize, words: &[u8], g: Group, wanted: usize) -> usize {
-    let file_letters = lines::value(group::file_letters(g));
-    let letters = lines::value(group::packet_letters(g, 1));
+    let file_letters = lines::value(lengths::file_letters(g));
+    let letters = lines::value(lengths::packet_letters(g, 1));
     verdict(count, words, encode(g, 1, file_letters, letters), wanted)
 }
 

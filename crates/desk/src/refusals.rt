@@ -19,8 +19,8 @@ fn encode(
 // [3,2,d], L, with the lengths that the group gives.
 fn group(count: usize, words: &[u8], d: usize, l: usize, wanted: usize) -> usize {
     let g = group::of(3, 2, d, l);
-    let file = lines::value(group::file_letters(g));
-    let held = lines::value(group::packet_letters(g, 1));
+    let file = lines::value(lengths::file_letters(g));
+    let held = lines::value(lengths::packet_letters(g, 1));
     limits::verdict(count, words, limits::encode(g, 1, file, held), wanted)
 }
 

@@ -1,7 +1,5 @@
--- Laws of the checks and of the lengths.
+-- Laws of the checks and of the answers.
 pub mod Refusals
 pub mod InRange
-pub mod Ids
-pub mod Sizes
 pub mod Outcomes
 pub mod Called

@@ -1,4 +1,3 @@
--- A group, what it may be, what a refused call answers, and every length.
+-- A group, what it may be, and what a refused call answers.
 pub mod Answers
 pub mod Ranges
-pub mod Lengths

@@ -1,9 +1,7 @@
 -- The ranges of document 01's "Group numbers and letters" (docs/SCHEME.md, 1), and the refusals that follow from them.
-use mathlib.Core.Bool.{Bool, true, false}
-use mathlib.Core.List.{List, [], _∷_}
+use mathlib.Core.Bool.{Bool}
 use Prim.Native.Nat.{ℕ, _-_, _+_, _*_, _≤_}
-use lib.Dec.{leb, ltb, eqb}
-use lib.ListN.{length}
+use lib.Dec.{leb, eqb}
 use Rattle.letters.specs.Places.{both}
 use Rattle.group.specs.declared.Group.{Group}
 use Rattle.group.specs.Answers.{unless, first}
@@ -63,32 +61,6 @@ idRefusal g i = unless (between 1 (g .n) i) 3
 unfoldable pub nodeRefusal : Group → ℕ → ℕ
 unfolding groupRefusal idRefusal
 nodeRefusal g i = first (groupRefusal g) (idRefusal g i)
-
--- every id is one of 1..n
-unfoldable pub allInRange : ℕ → List ℕ → Bool
-allInRange n [] = true
-allInRange n (i ∷ ids) = both (between 1 n i) (allInRange n ids)
-
--- each id is below the one before it
-unfoldable pub falling : List ℕ → Bool
-falling [] = true
-falling (i ∷ []) = true
-falling (i ∷ (j ∷ ids)) = both (ltb j i) (falling (j ∷ ids))
-
--- one of the tests holds
-abbrev pub either : Bool → Bool → Bool
-either true b = true
-either false b = b
-
--- f is one of the ids
-unfoldable pub among : ℕ → List ℕ → Bool
-among f [] = false
-among f (i ∷ ids) = either (eqb i f) (among f ids)
-
--- refusals 3 and 4 of a list of ids that must be so many
-unfoldable pub idsRefusal : Group → ℕ → List ℕ → ℕ
-unfolding allInRange falling
-idsRefusal g wanted ids = first (unless (both (eqb (length ids) wanted) (allInRange (g .n) ids)) 3) (unless (falling ids) 4)
 
 -- refusals 5 and 6: a lent input or output has exactly the wanted length
 abbrev pub inputRefusal : ℕ → ℕ → ℕ

@@ -5,7 +5,7 @@ use crate::Refusal;
 ghost use mathlib.Core.Path.{_≡_};
 ghost use lib.Dec.{eqb};
 ghost use Rattle.group.specs.Answers.{checkNumber, first, unless, refusalNumber};
-ghost use Rattle.group.specs.Ranges.{groupRefusal, nodeRefusal, idRefusal, idsRefusal, numbersInRange, lengthInRange, allInRange, falling, among};
+ghost use Rattle.group.specs.Ranges.{groupRefusal, nodeRefusal, idRefusal, numbersInRange, lengthInRange};
 
 // n is 3 to 16, and 2 <= k <= d <= n-1.
 pub fn numbers_in_range(g: Group) -> bool
@@ -73,67 +73,6 @@ pub fn node(g: Group, node: usize) -> Check
         Check::Refused(refusal) => Check::Refused(refusal),
         Check::Fine => id(g, node),
     }
-}
-
-// Every id is one of 1..n.
-pub fn all_in_range(ids: &[usize], n: usize) -> bool
-    ensures { λ r. ⌜ r ≡ allInRange n (now (ids .entry)) ⌝ }
-{
-    let mut i = 0;
-    while i < ids.len() {
-        if ids[i] < 1 {
-            return false;
-        }
-        if n < ids[i] {
-            return false;
-        }
-        i += 1;
-    }
-    true
-}
-
-// Each id is below the one before it.
-pub fn strictly_falling(ids: &[usize]) -> bool
-    ensures { λ r. ⌜ r ≡ falling (now (ids .entry)) ⌝ }
-{
-    let mut i = 1;
-    while i < ids.len() {
-        if ids[i - 1] <= ids[i] {
-            return false;
-        }
-        i += 1;
-    }
-    true
-}
-
-// `node` is one of the ids.
-pub fn is_among(node: usize, ids: &[usize]) -> bool
-    ensures { λ r. ⌜ r ≡ among node (now (ids .entry)) ⌝ }
-{
-    let mut i = 0;
-    while i < ids.len() {
-        if ids[i] == node {
-            return true;
-        }
-        i += 1;
-    }
-    false
-}
-
-// A list of ids that must be `wanted` many: refusal 3, and then 4.
-pub fn ids(g: Group, wanted: usize, ids: &[usize]) -> Check
-    ensures { λ r. ⌜ checkNumber r ≡ idsRefusal g wanted (now (ids .entry)) ⌝ }
-{
-    if ids.len() != wanted {
-        return Check::Refused(Refusal::Ids);
-    }
-    if !all_in_range(ids, g.n) {
-        return Check::Refused(Refusal::Ids);
-    }
-    if !strictly_falling(ids) {
-        return Check::Refused(Refusal::Order);
-    }
-    Check::Fine
 }
 
 // A lent slice has exactly the wanted length; else the refusal that the caller names, 5 or 6.

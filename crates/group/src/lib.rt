@@ -1,11 +1,9 @@
-// A group of nodes and its numbers, the refusals that every call shares, and every length.
+// A group of nodes and its numbers, and the refusals and checks that calls share.
 pub mod checks;
-pub mod lengths;
 
 ghost use mathlib.Core.Path.{_≡_};
-ghost use Rattle.group.specs.Answers.{Answers, refusalNumber, numberOf};
-ghost use Rattle.group.specs.Lengths.{fileLetters, nodeLetters, repairLetters};
-ghost use Rattle.group.specs.Ranges.{groupOf, groupRefusal, nodeRefusal};
+ghost use Rattle.group.specs.Answers.{refusalNumber, numberOf};
+ghost use Rattle.group.specs.Ranges.{groupOf};
 
 // A group's numbers, any numbers: n nodes, any k of which give a batch back and any d of which rebuild a lost one,
 // and l letters in a sequence. Which numbers are allowed is what `checks` tells.
@@ -78,35 +76,5 @@ pub fn answer_number(answer: Answer) -> usize
     match answer {
         Answer::Value(_) => 0,
         Answer::Refused(refusal) => refusal_number(refusal),
-    }
-}
-
-// The letters of a file, B*L. Refusals: 1, 2.
-pub fn file_letters(g: Group) -> Answer
-    ensures { λ r. ⌜ Answers r (groupRefusal g) (fileLetters g) ⌝ }
-{
-    match checks::group(g) {
-        Check::Refused(refusal) => Answer::Refused(refusal),
-        Check::Fine => Answer::Value(lengths::file(g)),
-    }
-}
-
-// The letters that a node holds, T: its d packets one after another. Refusals: 1, 2, 3.
-pub fn packet_letters(g: Group, node: usize) -> Answer
-    ensures { λ r. ⌜ Answers r (nodeRefusal g node) (nodeLetters g node) ⌝ }
-{
-    match checks::node(g, node) {
-        Check::Refused(refusal) => Answer::Refused(refusal),
-        Check::Fine => Answer::Value(lengths::node(g, node)),
-    }
-}
-
-// The letters of the piece that a helper sends for the lost node, L'. Refusals: 1, 2, 3.
-pub fn repair_letters(g: Group, lost: usize) -> Answer
-    ensures { λ r. ⌜ Answers r (nodeRefusal g lost) (repairLetters g lost) ⌝ }
-{
-    match checks::node(g, lost) {
-        Check::Refused(refusal) => Answer::Refused(refusal),
-        Check::Fine => Answer::Value(lengths::repair(g, lost)),
     }
 }

@@ -13,9 +13,9 @@ use borrow.Author.Tests.{eqb-true, eq-eqb, ne-eqb}
 use Rattle.letters.proofs.Cases.{le-or-lt, eq-or-ne}
 use Rattle.group.specs.Answers.{ifFine}
 use Rattle.group.specs.Ranges.{groupOf, between, longest, nodeRefusal, NodeOf}
-use Rattle.group.specs.Lengths.{nodeLetters}
+use Rattle.lengths.specs.Lengths.{nodeLetters}
 use Rattle.group.proofs.InRange.{between-true, true-between, node-of, of-node}
-use Rattle.group.proofs.Sizes.{node-at-most}
+use Rattle.lengths.proofs.Sizes.{node-at-most}
 use Rattle.records.specs.Records.{totalLimit, pair, four}
 use Rattle.letters.specs.Lanes.{Bytes}
 use Rattle.layout.specs.Laws.{Lawful, SameBelow, Passes}

@@ -6,7 +6,7 @@ use lib.Dec.{eqb}
 use lib.ListN.{getD}
 use Rattle.group.specs.Answers.{ifFine}
 use Rattle.group.specs.Ranges.{groupOf, between, longest, nodeRefusal, NodeOf}
-use Rattle.group.specs.Lengths.{nodeLetters}
+use Rattle.lengths.specs.Lengths.{nodeLetters}
 use Rattle.records.specs.Records.{number, pair, four}
 use Rattle.layout.specs.Layout.{Layout}
 use Rattle.heads.specs.declared.Head.{Head}

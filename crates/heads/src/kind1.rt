@@ -44,7 +44,7 @@ pub fn head_in(share: &[u8]) -> Head
 pub fn total(head: Head) -> usize
     ensures { λ r. ⌜ r ≡ kind1Total head ⌝ }
 {
-    match group::packet_letters(head.group, head.node) {
+    match lengths::packet_letters(head.group, head.node) {
         Answer::Value(letters) => letters,
         Answer::Refused(_) => 0,
     }

@@ -10,9 +10,9 @@ use lib.Dec.{ltb, eqb}
 use lib.ListN.{length, getD, length-append, List·getD-append, List·getD-eq-default}
 use lib.Seq.{ext-getD}
 use borrow.Author.Tests.{le-ltb, eqb-true}
+use Rattle.letters.specs.Places.{either}
 use Rattle.letters.proofs.Cases.{le-or-lt}
 use Rattle.shifts.proofs.Entries.{listed, entry}
-use Rattle.group.specs.Ranges.{either}
 use Rattle.records.specs.Records.{blockLetters, blockSize, endSize, blocks, sizeFor, endRecord}
 use Rattle.records.specs.Steps.Places.{blockKind, blockByte, blockStands, recordStands, letterIn}
 use Rattle.layout.specs.Layout.{Layout, sizeIn, totalIn}

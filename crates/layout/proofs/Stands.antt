@@ -8,8 +8,8 @@ use native.Mathlib.Omega.{arith}
 use lib.Dec.{ltb, eqb}
 use lib.ListN.{length, getD, List·getD-eq-default}
 use borrow.Author.Tests.{lt-ltb, le-ltb, eq-eqb, ne-eqb}
+use Rattle.letters.specs.Places.{either}
 use Rattle.letters.proofs.Cases.{le-or-lt}
-use Rattle.group.specs.Ranges.{either}
 use Rattle.records.specs.Records.{blockLetters, blockSize, endSize, blocks, sizeFor, blockRecords, endRecord}
 use Rattle.records.specs.Steps.Places.{blockKind, blockByte, blockStands, endStands, recordStands, standsIn, recordAt, offsetAt}
 use Rattle.records.proofs.Places.{head-at, block-at}

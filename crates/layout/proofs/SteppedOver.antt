@@ -8,8 +8,8 @@ use native.Mathlib.Omega.{arith}
 use lib.Dec.{ltb}
 use lib.ListN.{length, getD}
 use borrow.Author.Tests.{lt-ltb, le-leb, eq-eqb}
+use Rattle.letters.specs.Places.{either}
 use Rattle.letters.proofs.Cases.{le-or-lt}
-use Rattle.group.specs.Ranges.{either}
 use Rattle.records.specs.Records.{kindFull, blockLetters, blockSize, blocks}
 use Rattle.records.specs.Steps.Places.{blockKind, recordStands, standsIn, recordAt, offsetAt}
 use Rattle.layout.specs.Steps.Reading.{Lettered, ZerosTo, Skips, FullBlocks}

@@ -10,6 +10,11 @@ abbrev pub both : Bool → Bool → Bool
 both true b = b
 both false b = false
 
+-- one of the tests holds
+abbrev pub either : Bool → Bool → Bool
+either true b = true
+either false b = b
+
 -- p is one of 1..n
 unfoldable pub inside : ℕ → ℕ → Bool
 inside n p = both (ltb 0 p) (leb p n)

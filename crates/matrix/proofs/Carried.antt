@@ -12,7 +12,7 @@ use Rattle.letters.proofs.Carried.{letter-carried, lastByte, last-carries, lane
 use Rattle.shifts.specs.Rule.{t}
 use Rattle.system.specs.System.{part, sequence}
 use Rattle.group.specs.declared.Group.{Group}
-use Rattle.group.specs.Lengths.{fileLetters, packetLength, packetStart, repairLetters}
+use Rattle.lengths.specs.Lengths.{fileLetters, packetLength, packetStart, repairLetters}
 use Rattle.sequences.specs.Lists.{run, joined, ranked}
 use Rattle.sequences.proofs.Lists.{run-same, joined-same}
 use Rattle.sequences.proofs.CarriedRuns.{run-carried, joined-carried, sequence-carried, moved-carried, part-carried}

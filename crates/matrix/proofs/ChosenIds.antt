@@ -9,9 +9,10 @@ use borrow.Author.Tests.{eqb-true}
 use Rattle.letters.specs.Places.{both}
 use Rattle.group.specs.declared.Group.{Group}
 use Rattle.group.specs.Answers.{unless}
-use Rattle.group.specs.Ranges.{allInRange, falling, InRange, idsRefusal}
+use Rattle.group.specs.Ranges.{InRange}
+use Rattle.ids.specs.Ids.{allInRange, falling, idsRefusal}
 use Rattle.group.proofs.Refusals.{first-none, unless-none, both-true}
-use Rattle.group.proofs.Ids.{in-range-at, falls-at}
+use Rattle.ids.proofs.Ids.{in-range-at, falls-at}
 use Rattle.sequences.specs.Lists.{ranked}
 use Rattle.matrix.specs.Pieces.{Chosen}
 

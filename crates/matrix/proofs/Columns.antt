@@ -9,7 +9,7 @@ use borrow.Author.Tests.{le-leb, lt-leb}
 use Rattle.letters.proofs.Cases.{le-or-lt}
 use Rattle.group.specs.declared.Group.{Group}
 use Rattle.group.specs.Ranges.{InRange}
-use Rattle.group.specs.Lengths.{sequences, fileLetters}
+use Rattle.lengths.specs.Lengths.{sequences, fileLetters}
 use Rattle.matrix.specs.Matrix.{before, entryNumber}
 
 -- (w+2)(w+1) = (w+1)w + 2(w+1)

@@ -5,8 +5,8 @@ use native.Mathlib.Nat.{add-mul, one-mul, mul-le-mul}
 use native.Mathlib.Omega.{arith}
 use Rattle.group.specs.declared.Group.{Group}
 use Rattle.group.specs.Ranges.{longest, InRange}
-use Rattle.group.specs.Lengths.{fileLetters}
-use Rattle.group.proofs.Sizes.{sequences-at-most}
+use Rattle.lengths.specs.Lengths.{fileLetters}
+use Rattle.lengths.proofs.Sizes.{sequences-at-most}
 use Rattle.matrix.specs.Matrix.{before, entryNumber, entryStart}
 use Rattle.matrix.proofs.Columns.{before-next, before-rises, before-all, from-one, entry-fits}
 

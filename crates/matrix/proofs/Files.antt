@@ -10,7 +10,7 @@ use Rattle.system.specs.System.{sequence}
 use Rattle.system.proofs.System.{sequence-inside, index-below}
 use Rattle.group.specs.declared.Group.{Group}
 use Rattle.group.specs.Ranges.{InRange}
-use Rattle.group.specs.Lengths.{fileLetters}
+use Rattle.lengths.specs.Lengths.{fileLetters}
 use Rattle.sequences.specs.Lists.{run, joined}
 use Rattle.matrix.specs.Matrix.{before, entryNumber, asFile}
 use Rattle.sequences.proofs.Lists.{ListStarts, length-joined, getD-joined, ends-within, is-joined}

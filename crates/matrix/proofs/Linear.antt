@@ -11,7 +11,7 @@ use Rattle.letters.specs.Runs.{xored}
 use Rattle.shifts.specs.Rule.{t}
 use Rattle.system.specs.System.{sequence}
 use Rattle.group.specs.declared.Group.{Group}
-use Rattle.group.specs.Lengths.{packetLength, packetStart, repairLetters}
+use Rattle.lengths.specs.Lengths.{packetLength, packetStart, repairLetters}
 use Rattle.sequences.specs.Lists.{joined, ranked}
 use Rattle.sequences.proofs.Lists.{length-run, run-same, joined-same}
 use Rattle.sequences.proofs.LinearRuns.{run-xored, same-lengths, joined-xored, letter-of-xored, moved-plus, moved-same}

@@ -18,8 +18,8 @@ use Rattle.shifts.proofs.Rule.{refined}
 use Rattle.system.specs.System.{sequence, Sequences}
 use Rattle.system.proofs.System as system
 use Rattle.group.specs.declared.Group.{Group}
-use Rattle.group.specs.Lengths.{packetLength, packetStart, nodeLetters}
-use Rattle.group.proofs.Sizes.{packet-start}
+use Rattle.lengths.specs.Lengths.{packetLength, packetStart, nodeLetters}
+use Rattle.lengths.proofs.Sizes.{packet-start}
 use Rattle.matrix.specs.Matrix.{entryNumber, matrix, packetLetter, packet, packets}
 use Rattle.sequences.specs.Moved.{moved}
 use Rattle.matrix.specs.Repair.{heldLetter}

@@ -15,7 +15,7 @@ use Rattle.system.specs.Order.{Ordered, ruled}
 use Rattle.system.proofs.Order.{falling-ordered, ordered-fewer}
 use Rattle.system.proofs.OneSolution.{one-solution}
 use Rattle.group.specs.declared.Group.{Group}
-use Rattle.group.specs.Lengths.{fileLetters}
+use Rattle.lengths.specs.Lengths.{fileLetters}
 use Rattle.sequences.specs.Lists.{ranked}
 use Rattle.matrix.specs.Matrix.{asFile, matrix, packetLetter}
 use Rattle.sequences.specs.Moved.{moved}

@@ -16,8 +16,8 @@ use Rattle.system.proofs.SomeSolution.{solution, solved, solves}
 use Rattle.system.proofs.System as system
 use Rattle.group.specs.declared.Group.{Group}
 use Rattle.group.specs.Ranges.{NodeOf}
-use Rattle.group.specs.Lengths.{packetLength, nodeLetters, repairLetters, repairBuffer}
-use Rattle.group.proofs.Sizes.{packet-start}
+use Rattle.lengths.specs.Lengths.{packetLength, nodeLetters, repairLetters, repairBuffer}
+use Rattle.lengths.proofs.Sizes.{packet-start}
 use Rattle.sequences.specs.Lists.{run, joined, ranked}
 use Rattle.sequences.specs.Moved.{moved}
 use Rattle.matrix.specs.Matrix.{matrix, packetLetter, packets}

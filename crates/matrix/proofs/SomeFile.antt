@@ -17,7 +17,7 @@ use Rattle.system.proofs.Settles.{settled, settles}
 use Rattle.system.proofs.SomeSolution.{solution, solved, solves}
 use Rattle.system.proofs.System.{part-same}
 use Rattle.group.specs.declared.Group.{Group}
-use Rattle.group.specs.Lengths.{fileLetters}
+use Rattle.lengths.specs.Lengths.{fileLetters}
 use Rattle.matrix.specs.Matrix.{entryNumber, asFile, matrix}
 use Rattle.matrix.specs.Pieces.{pieceLetter, reading, Chosen}
 use Rattle.matrix.proofs.Files.{length-asFile, asFile-at, is-asFile}

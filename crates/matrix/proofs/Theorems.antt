@@ -10,7 +10,7 @@ use Rattle.shifts.specs.Rule.{t}
 use Rattle.system.specs.System.{sequence}
 use Rattle.group.specs.declared.Group.{Group}
 use Rattle.group.specs.Ranges.{NodeOf}
-use Rattle.group.specs.Lengths.{fileLetters, packetStart, packetLength, repairLetters}
+use Rattle.lengths.specs.Lengths.{fileLetters, packetStart, packetLength, repairLetters}
 use Rattle.sequences.specs.Lists.{ranked}
 use Rattle.matrix.specs.Matrix.{entryNumber, packet, packetLetter, packets}
 use Rattle.matrix.specs.Pieces.{pieceIn, pieceLetter, piece, reading, Chosen}
@@ -22,7 +22,7 @@ use Rattle.matrix.proofs.Product.{shift-rises, packets-at, packet-at, l
 use Rattle.matrix.proofs.Reading.{one-file}
 use Rattle.matrix.proofs.Rebuilt.{one-repair, repairable, length-repairable, gives-pieces}
 use Rattle.matrix.proofs.SomeFile.{source, length-source, reads-buffer}
-use Rattle.group.proofs.Sizes.{packet-fits}
+use Rattle.lengths.proofs.Sizes.{packet-fits}
 
 module _ {A : Type 0} (𝓛 : Letters A) (g : Group) (ids : List ℕ) (chosen : Chosen g (g .k) ids) where
   pub length-reading : (file : List A) → length (reading (𝓛 .adding) g file ids) ≡ fileLetters g

@@ -6,7 +6,7 @@ use lib.ListN.{length}
 use Rattle.letters.specs.Algebra.{Adding}
 use Rattle.group.specs.declared.Group.{Group}
 use Rattle.group.specs.Ranges.{NodeOf}
-use Rattle.group.specs.Lengths.{repairLetters}
+use Rattle.lengths.specs.Lengths.{repairLetters}
 use Rattle.sequences.specs.Lists.{joined, ranked}
 use Rattle.matrix.specs.Matrix.{packets}
 use Rattle.matrix.specs.Pieces.{Chosen}

@@ -8,7 +8,7 @@ use Rattle.system.specs.System.{sequence}
 use Rattle.system.specs.Order.{ruled}
 use Rattle.system.specs.Count.{place, within, additions, cost}
 use Rattle.group.specs.declared.Group.{Group}
-use Rattle.group.specs.Lengths.{repairLetters}
+use Rattle.lengths.specs.Lengths.{repairLetters}
 use Rattle.sequences.specs.Lists.{ranked}
 use Rattle.matrix.specs.Matrix.{matrix}
 

@@ -8,7 +8,7 @@ use Rattle.shifts.specs.Rule.{t}
 use Rattle.system.specs.System.{sequence}
 use Rattle.group.specs.declared.Group.{Group}
 use Rattle.group.specs.Ranges.{InRange}
-use Rattle.group.specs.Lengths.{packetLength}
+use Rattle.lengths.specs.Lengths.{packetLength}
 use Rattle.sequences.specs.Lists.{run, joined}
 use Rattle.sequences.specs.Moved.{moved}
 

@@ -8,7 +8,7 @@ use Rattle.shifts.specs.Rule.{t}
 use Rattle.system.specs.Order.{Falling}
 use Rattle.group.specs.declared.Group.{Group}
 use Rattle.group.specs.Ranges.{InRange}
-use Rattle.group.specs.Lengths.{packetStart}
+use Rattle.lengths.specs.Lengths.{packetStart}
 use Rattle.sequences.specs.Lists.{run, ranked}
 use Rattle.matrix.specs.Matrix.{asFile, packetLetter}
 

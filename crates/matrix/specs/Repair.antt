@@ -7,7 +7,7 @@ use Rattle.shifts.specs.Rule.{t}
 use Rattle.system.specs.System.{part, sequence}
 use Rattle.system.specs.Order.{ruled}
 use Rattle.group.specs.declared.Group.{Group}
-use Rattle.group.specs.Lengths.{packetLength, packetStart, repairLetters}
+use Rattle.lengths.specs.Lengths.{packetLength, packetStart, repairLetters}
 use Rattle.sequences.specs.Lists.{run, joined, ranked}
 use Rattle.sequences.specs.Moved.{moved}
 

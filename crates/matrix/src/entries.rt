@@ -3,7 +3,7 @@ use group::Group;
 ghost use mathlib.Core.Path.{_≡_};
 ghost use Prim.Native.Nat.{_+_, _-_, _*_, _≤_};
 ghost use Rattle.group.specs.Ranges.{InRange};
-ghost use Rattle.group.specs.Lengths.{fileLetters};
+ghost use Rattle.lengths.specs.Lengths.{fileLetters};
 ghost use Rattle.matrix.specs.Matrix.{before, entryNumber, entryStart};
 ghost use Rattle.matrix.specs.Matrix.{Free};
 

@@ -1,2 +1,2 @@
--- What a node holds, and what it sends for a recovery.
+-- What a node holds.
 pub mod Calls

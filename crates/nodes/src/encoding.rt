@@ -11,7 +11,7 @@ ghost use Rattle.letters.specs.Algebra.{xors};
 ghost use Rattle.shifts.specs.Rule.{t};
 ghost use Rattle.shifts.specs.Table.{Table};
 ghost use Rattle.group.specs.Ranges.{NodeOf};
-ghost use Rattle.group.specs.Lengths.{fileLetters, nodeLetters, packetLength};
+ghost use Rattle.lengths.specs.Lengths.{fileLetters, nodeLetters, packetLength};
 ghost use Rattle.matrix.specs.Matrix.{entryStart, matrix, packet, packets as product};
 ghost use Rattle.nodes.specs.Calls.{Encoded};
 ghost use Rattle.sequences.specs.Steps.Windows.{Adds, Zeros};
@@ -34,8 +34,8 @@ fn encode_exact(g: Group, node: usize, file: &[u8], packets: &mut [u8]) -> Answe
     ensures { λ r. ⌜ Encoded g node (now (file .entry)) (now (packets .entry)) (now (packets .exit)) r ⌝ }
 {
     let table = shifts::all();
-    let size = group::lengths::widened_in(&table, g, node);
-    let wanted_file = group::lengths::file(g);
+    let size = lengths::known::widened_in(&table, g, node);
+    let wanted_file = lengths::known::file(g);
     match group::checks::lengths(file.len(), wanted_file, packets.len(), g.d * size) {
         Check::Refused(refusal) => Answer::Refused(refusal),
         Check::Fine => {

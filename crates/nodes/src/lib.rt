@@ -1,3 +1,2 @@
-// What a node holds, its packets of a file, and the pieces that it sends for a recovery.
+// What a node holds: its packets of a file.
 pub mod encoding;
-pub mod pieces;

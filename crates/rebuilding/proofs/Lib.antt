@@ -1,4 +1,3 @@
--- Why help and repair keep their contracts.
-pub mod HelpCalls
+-- Why repair keeps its contract.
 pub mod Outcomes
 pub mod RepairCalls

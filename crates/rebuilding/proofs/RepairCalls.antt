@@ -14,8 +14,9 @@ use Rattle.group.specs.declared.Group.{Group}
 use Rattle.group.specs.declared.Refusal.{Refusal}
 use Rattle.group.specs.declared.Answer.{Answer}
 use Rattle.group.specs.Answers.{refusalNumber, unless, first}
-use Rattle.group.specs.Ranges.{nodeRefusal, idsRefusal}
-use Rattle.group.specs.Lengths.{repairLetters, repairBuffer}
+use Rattle.group.specs.Ranges.{nodeRefusal}
+use Rattle.ids.specs.Ids.{idsRefusal}
+use Rattle.lengths.specs.Lengths.{repairLetters, repairBuffer}
 use Rattle.group.proofs.InRange.{node-of}
 use Rattle.group.proofs.Refusals.{first-none, unless-none, numbered, refuses, gives, if-refused, if-fine}
 use Rattle.matrix.specs.Repair.{equations}

@@ -1,4 +1,4 @@
--- What each call answers, and what it leaves in each lent buffer, whatever comes in.
+-- What repair answers, and what it leaves in the buffer, whatever comes in.
 use mathlib.Core.Path.{_≡_}
 use mathlib.Core.List.{List}
 use mathlib.Core.Bool.{not}
@@ -8,35 +8,12 @@ use lib.ListN.{length}
 use Rattle.letters.specs.Algebra.{xors}
 use Rattle.group.specs.declared.Group.{Group}
 use Rattle.group.specs.declared.Answer.{Answer}
-use Rattle.group.specs.Answers.{unless, first, ifFine, Answers, Called}
-use Rattle.group.specs.Ranges.{among, nodeRefusal, idsRefusal}
-use Rattle.group.specs.Lengths.{repairBuffer}
+use Rattle.group.specs.Answers.{unless, first, ifFine, Answers}
+use Rattle.group.specs.Ranges.{nodeRefusal}
+use Rattle.ids.specs.Ids.{among, idsRefusal}
+use Rattle.lengths.specs.Lengths.{repairBuffer}
 use Rattle.matrix.specs.Repair.{equations}
 use Rattle.matrix.specs.Counts.{repairCount}
-use mathlib.Core.List.{List}
-use Prim.Native.Nat.{ℕ, _-_}
-use Rattle.letters.specs.Places.{both}
-use Rattle.group.specs.Ranges.{between, nodeRefusal}
-use Rattle.group.specs.Lengths.{nodeLetters, repairLetters}
-use Rattle.matrix.specs.Repair.{helping}
-
--- help: 1, 2, then 3 for either id or the rank, 4 for a helper that is the lost node
-unfoldable pub helperRefusal : Group → ℕ → ℕ → ℕ → ℕ
-helperRefusal g lost helper rank =
-    first (nodeRefusal g lost)
-    (first (unless (both (between 1 (g .n) helper) (between 1 (g .d) rank)) 3) (unless (not (eqb helper lost)) 4))
-
--- and then 5 for the helper's packets, 6 for the piece
-unfoldable pub helpRefusal : Group → ℕ → ℕ → ℕ → ℕ → ℕ → ℕ
-unfolding helperRefusal
-helpRefusal g lost helper rank held out =
-    first (helperRefusal g lost helper rank)
-    (first (unless (eqb held (nodeLetters g helper)) 5) (unless (eqb out (repairLetters g lost)) 6))
-
--- the buffer holds the piece
-abbrev pub Helped : Group → ℕ → ℕ → ℕ → List ℕ → List ℕ → List ℕ → Answer → Type 0
-Helped g lost helper rank held before after r =
-    Called (helpRefusal g lost helper rank (length held) (length before)) 0 (helping xors g lost helper rank held) before after r
 
 -- repair: 4 for a lost node that is one of its helpers
 unfoldable pub apartRefusal : ℕ → List ℕ → ℕ

@@ -1,3 +1,2 @@
-// A lost node from d others: what each helper sends, and the lost node's packets from their pieces.
-pub mod helping;
+// A lost node from the pieces of d helpers.
 pub mod repairing;

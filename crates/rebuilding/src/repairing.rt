@@ -38,7 +38,7 @@ fn check_others(g: Group, lost: usize, helpers: &[usize]) -> Check
     requires { ⌜ NodeOf g lost ⌝ }
     ensures { λ r. ⌜ checkNumber r ≡ helpersRefusal g lost (now (helpers .entry)) ⌝ }
 {
-    match group::checks::ids(g, g.d, helpers) {
+    match ids::check(g, g.d, helpers) {
         Check::Refused(refusal) => Check::Refused(refusal),
         Check::Fine => check_apart(lost, helpers),
     }
@@ -48,7 +48,7 @@ fn check_others(g: Group, lost: usize, helpers: &[usize]) -> Check
 fn check_apart(lost: usize, helpers: &[usize]) -> Check
     ensures { λ r. ⌜ checkNumber r ≡ apartRefusal lost (now (helpers .entry)) ⌝ }
 {
-    if group::checks::is_among(lost, helpers) {
+    if ids::is_among(lost, helpers) {
         return Check::Refused(Refusal::Order);
     }
     Check::Fine
@@ -59,11 +59,11 @@ fn repair_exact(g: Group, lost: usize, helpers: &[usize], buffer: &mut [u8]) -> 
     requires { ⌜ Helpers g lost (now helpers) ⌝ }
     ensures { λ r. ⌜ Repaired g lost (now (helpers .entry)) (now (buffer .entry)) (now (buffer .exit)) r ⌝ }
 {
-    let wanted = group::lengths::repair_buffer(g, lost);
+    let wanted = lengths::known::repair_buffer(g, lost);
     if buffer.len() != wanted {
         return Answer::Refused(Refusal::Input);
     }
-    let n = group::lengths::repair(g, lost);
+    let n = lengths::known::repair(g, lost);
     let rows = rows::shift_rows(helpers);
     Answer::Value(solving::solve(buffer, g.d, n, &rows))
 }

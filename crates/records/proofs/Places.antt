@@ -8,7 +8,7 @@ use native.Mathlib.Omega.{arith}
 use lib.Dec.{ltb, eqb}
 use lib.ListN.{getD}
 use borrow.Author.Tests.{lt-ltb, le-ltb, eq-eqb, ne-eqb}
-use Rattle.group.specs.Ranges.{either}
+use Rattle.letters.specs.Places.{either}
 use Rattle.records.specs.Records.{blockLetters, blockSize, blocks, endRecord}
 use Rattle.records.specs.Steps.Places.{blockKind, blockStands, endStands, recordStands, standsIn, recordStart, recordSize, recordAt, offsetAt}
 

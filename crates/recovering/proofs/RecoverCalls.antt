@@ -11,8 +11,9 @@ use Rattle.group.specs.declared.Group.{Group}
 use Rattle.group.specs.declared.Refusal.{Refusal}
 use Rattle.group.specs.declared.Answer.{Answer}
 use Rattle.group.specs.Answers.{refusalNumber, unless}
-use Rattle.group.specs.Ranges.{groupRefusal, idsRefusal}
-use Rattle.group.specs.Lengths.{fileLetters}
+use Rattle.group.specs.Ranges.{groupRefusal}
+use Rattle.ids.specs.Ids.{idsRefusal}
+use Rattle.lengths.specs.Lengths.{fileLetters}
 use Rattle.group.proofs.InRange.{in-range}
 use Rattle.group.proofs.Refusals.{numbered, refuses, gives, first-none, unless-none, if-refused, if-fine}
 use Rattle.matrix.specs.Pieces.{reading}

@@ -24,7 +24,7 @@ use Rattle.system.proofs.System.{part-same, index-below}
 use Rattle.shifts.specs.Rule.{t}
 use Rattle.group.specs.declared.Group.{Group}
 use Rattle.group.specs.Ranges.{longest}
-use Rattle.group.specs.Lengths.{fileLetters}
+use Rattle.lengths.specs.Lengths.{fileLetters}
 use Rattle.matrix.specs.Matrix.{before, entryNumber}
 use Rattle.sequences.specs.Steps.Rows.{RowsOf}
 use Rattle.recovering.specs.Steps.Recovery.{entriesMost, columnMost, standing, seenAt, Collected, runWorth, columnWorth, Pushed, Column}

@@ -8,8 +8,9 @@ use Rattle.letters.specs.Algebra.{xors}
 use Rattle.group.specs.declared.Group.{Group}
 use Rattle.group.specs.declared.Answer.{Answer}
 use Rattle.group.specs.Answers.{unless, first, ifFine, Answers}
-use Rattle.group.specs.Ranges.{groupRefusal, idsRefusal}
-use Rattle.group.specs.Lengths.{fileLetters}
+use Rattle.group.specs.Ranges.{groupRefusal}
+use Rattle.ids.specs.Ids.{idsRefusal}
+use Rattle.lengths.specs.Lengths.{fileLetters}
 use Rattle.matrix.specs.Pieces.{reading}
 use Rattle.matrix.specs.Counts.{recoveryCount}
 

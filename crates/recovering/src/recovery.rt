@@ -33,7 +33,7 @@ fn check_readers(g: Group, ids: &[usize]) -> Check
 {
     match group::checks::group(g) {
         Check::Refused(refusal) => Check::Refused(refusal),
-        Check::Fine => group::checks::ids(g, g.k, ids),
+        Check::Fine => ids::check(g, g.k, ids),
     }
 }
 
@@ -42,7 +42,7 @@ fn recover_exact(g: Group, ids: &[usize], buffer: &mut [u8]) -> Answer
     requires { ⌜ Readers g (now ids) ⌝ }
     ensures { λ r. ⌜ Recovered g (now (ids .entry)) (now (buffer .entry)) (now (buffer .exit)) r ⌝ }
 {
-    let wanted = group::lengths::file(g);
+    let wanted = lengths::known::file(g);
     if buffer.len() != wanted {
         return Answer::Refused(Refusal::Input);
     }

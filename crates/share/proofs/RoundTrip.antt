@@ -8,7 +8,7 @@ use borrow.Author.Tests.{eq-eqb}
 use Rattle.group.specs.declared.Answer.{Answer}
 use Rattle.group.specs.Answers.{ifFine}
 use Rattle.group.specs.Ranges.{nodeRefusal}
-use Rattle.group.specs.Lengths.{nodeLetters}
+use Rattle.lengths.specs.Lengths.{nodeLetters}
 use Rattle.group.proofs.InRange.{node-of, of-node}
 use Rattle.group.proofs.Refusals.{exact-lengths, first-none}
 use Rattle.records.specs.Records.{sizeFor}

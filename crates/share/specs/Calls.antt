@@ -7,7 +7,7 @@ use Rattle.group.specs.declared.Group.{Group}
 use Rattle.group.specs.declared.Answer.{Answer}
 use Rattle.group.specs.Answers.{refusalNumber, first, ifFine, Answers}
 use Rattle.group.specs.Ranges.{groupOf, nodeRefusal, inputRefusal, outputRefusal}
-use Rattle.group.specs.Lengths.{nodeLetters}
+use Rattle.lengths.specs.Lengths.{nodeLetters}
 use Rattle.records.specs.Records.{sizeFor}
 use Rattle.layout.specs.Share.{shareOf, ShareOf}
 use Rattle.layout.specs.Judgment.{IsBeginning, IsNeither}

@@ -8,9 +8,9 @@ use group::Check;
 use group::Group;
 use group::Refusal;
 use group::checks;
-use group::lengths;
 use heads::Head;
 use heads::kind1;
+use lengths::known;
 use records::sizes;
 ghost use Rattle.group.specs.Answers.{Answers};
 ghost use Rattle.group.specs.Ranges.{nodeRefusal};
@@ -30,7 +30,7 @@ pub fn share_bytes(g: Group, node: usize) -> Answer
 {
     match checks::node(g, node) {
         Check::Refused(refusal) => Answer::Refused(refusal),
-        Check::Fine => Answer::Value(sizes::size_for(kind1::SIZE, lengths::node(g, node))),
+        Check::Fine => Answer::Value(sizes::size_for(kind1::SIZE, known::node(g, node))),
     }
 }
 

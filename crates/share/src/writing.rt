@@ -2,10 +2,10 @@
 use group::Answer;
 use group::Check;
 use group::checks;
-use group::lengths;
 use heads::Head;
 use heads::kind1;
 use layout::writing;
+use lengths::known;
 use records::sizes;
 ghost use mathlib.Core.Path.{_≡_};
 ghost use Prim.Native.Nat.{_<_};
@@ -33,7 +33,7 @@ pub fn fitting(head: Head, packets: &[u8], share: &mut [u8]) -> Answer
     requires { ⌜ NodeOf (head .group) (head .node) ⌝ }
     ensures { λ r. ⌜ Writes head (now (packets .entry)) (now (share .entry)) (fitRefusal head (length (now (packets .entry))) (length (now (share .entry)))) r (now (share .exit)) ⌝ }
 {
-    let letters = lengths::node(head.group, head.node);
+    let letters = known::node(head.group, head.node);
     let bytes = sizes::size_for(kind1::SIZE, letters);
     match checks::lengths(packets.len(), letters, share.len(), bytes) {
         Check::Refused(refusal) => Answer::Refused(refusal),

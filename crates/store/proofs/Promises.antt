@@ -18,7 +18,7 @@ use Rattle.group.specs.declared.Group.{Group}
 use Rattle.group.specs.declared.Answer.{Answer}
 use Rattle.group.specs.Answers.{numberOf, valueOf, Answers}
 use Rattle.group.specs.Ranges.{NodeOf}
-use Rattle.group.specs.Lengths.{fileLetters, nodeLetters}
+use Rattle.lengths.specs.Lengths.{fileLetters, nodeLetters}
 use Rattle.group.proofs.Refusals.{if-fine}
 use Rattle.sequences.specs.Lists.{run, joined, ranked}
 use Rattle.sequences.proofs.Lists.{length-run, getD-run, joined-same}
@@ -33,9 +33,10 @@ use Rattle.matrix.proofs.Theorems.{reading-once, piece-handed}
 use Rattle.matrix.proofs.Rebuilt.{rebuilds, same-buffer}
 use Rattle.matrix.proofs.CostSums.{recovery-cost, repair-cost}
 use Rattle.group.specs.Answers.{Called}
-use Rattle.nodes.specs.Calls.{Encoded, pieceRefusal, entryRefusal}
-use Rattle.rebuilding.specs.Calls.{Helped}
-use Rattle.nodes.proofs.Called.{of-piece, of-entry}
+use Rattle.nodes.specs.Calls.{Encoded}
+use Rattle.sending.specs.Calls.{pieceRefusal, entryRefusal}
+use Rattle.helpers.specs.Calls.{Helped}
+use Rattle.sending.proofs.Called.{of-piece, of-entry}
 use Rattle.recovering.specs.Calls.{readersRefusal, Recovered}
 use Rattle.recovering.proofs.RecoverCalls.{readers-of, recover-of, of-recover}
 use Rattle.rebuilding.proofs.RepairCalls.{repair-of}

@@ -7,9 +7,9 @@ use denote.Ref.{RefT, now}
 use Rattle.group.specs.declared.Group.{Group}
 use Rattle.group.specs.declared.Answer.{Answer}
 use Rattle.group.specs.Answers.{valueOf}
-use Rattle.group.specs.Lengths.{fileLetters}
+use Rattle.lengths.specs.Lengths.{fileLetters}
 use Rattle.sequences.specs.Lists.{ranked}
-use Rattle.nodes.specs.Calls.{Handed, Placed}
+use Rattle.sending.specs.Calls.{Handed, Placed}
 
 -- The collector's buffer, where the node of rank v holds these packets: at each entry (v,u) stands what `piece` handed back.
 pub record Collects (g : Group) (ids : List ℕ) (held : ℕ → List ℕ) (buffer : List ℕ) : Type 0 where

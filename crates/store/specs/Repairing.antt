@@ -6,7 +6,7 @@ use Rattle.group.specs.declared.Group.{Group}
 use Rattle.group.specs.declared.Answer.{Answer}
 use Rattle.group.specs.Answers.{numberOf}
 use Rattle.sequences.specs.Lists.{joined, ranked}
-use Rattle.rebuilding.specs.Calls.{Helped}
+use Rattle.helpers.specs.Calls.{Helped}
 use Rattle.rebuilding.specs.Calls.{Repaired}
 
 -- The calls by which these helpers, where the one of rank u holds held u, rebuild the lost node: none of them refuses, and this is what the buffer holds at exit.

@@ -27,9 +27,9 @@ fn rebuild(found: &[usize; 32], count: usize, g: Group, into: &mut [u8]) -> Answ
 // The lengths and places.
 fn size(operation: usize, g: Group, first: usize, second: usize) -> Answer {
     match operation {
-        16 => group::file_letters(g),
-        17 => group::packet_letters(g, first),
-        18 => group::repair_letters(g, first),
+        16 => lengths::file_letters(g),
+        17 => lengths::packet_letters(g, first),
+        18 => lengths::repair_letters(g, first),
         _ => store::pieces::entry(g, first, second),
     }
 }

@@ -10,7 +10,7 @@ pub fn group_of_six() -> Group {
 
 // T of a node.
 pub fn letters_of(node: usize) -> usize {
-    lines::value(group::packet_letters(group_of_six(), node))
+    lines::value(lengths::packet_letters(group_of_six(), node))
 }
 
 // The index at which a node's disk starts.

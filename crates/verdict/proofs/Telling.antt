@@ -9,7 +9,7 @@ use Rattle.io.specs.Counts.{Counts}
 use Rattle.group.specs.declared.Refusal.{Refusal}
 use Rattle.group.specs.Answers.{refusalNumber, ifFine}
 use Rattle.group.specs.Ranges.{nodeRefusal, NodeOf}
-use Rattle.group.specs.Lengths.{nodeLetters}
+use Rattle.lengths.specs.Lengths.{nodeLetters}
 use Rattle.group.proofs.InRange.{of-node}
 use Rattle.group.proofs.Refusals.{numbered}
 use Rattle.heads.specs.declared.Head.{Head}

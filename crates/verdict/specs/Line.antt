@@ -7,7 +7,7 @@ use lib.Dec.{ltb, eqb}
 use lib.ListN.{length, take, drop}
 use Rattle.io.specs.Digits.{digits}
 use Rattle.group.specs.declared.Group.{Group}
-use Rattle.group.specs.Lengths.{nodeLetters}
+use Rattle.lengths.specs.Lengths.{nodeLetters}
 use Rattle.heads.specs.declared.Head.{Head}
 use Rattle.share.specs.Calls.{Judges}
 

@@ -11,7 +11,7 @@ ghost use Prim.Native.Nat.{_≤_};
 ghost use lib.ListN.{length};
 ghost use Rattle.group.specs.Answers.{ifFine};
 ghost use Rattle.group.specs.Ranges.{nodeRefusal};
-ghost use Rattle.group.specs.Lengths.{nodeLetters};
+ghost use Rattle.lengths.specs.Lengths.{nodeLetters};
 ghost use Rattle.io.specs.Counts.{Counts};
 ghost use Rattle.verdict.specs.Line.{Told, Put, completeGroup, completeLine, refusedLine};
 
@@ -19,7 +19,7 @@ ghost use Rattle.verdict.specs.Line.{Told, Put, completeGroup, completeL
 fn letters(head: Head) -> usize
     ensures { λ r. ⌜ r ≡ ifFine (nodeRefusal (head .group) (head .node)) (nodeLetters (head .group) (head .node)) 0 ⌝ }
 {
-    match group::packet_letters(head.group, head.node) {
+    match lengths::packet_letters(head.group, head.node) {
         Answer::Value(letters) => letters,
         Answer::Refused(_) => 0,
     }

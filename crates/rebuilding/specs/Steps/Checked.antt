@@ -6,15 +6,6 @@ use Rattle.group.specs.declared.Group.{Group}
 use Rattle.group.specs.Ranges.{NodeOf}
 use Rattle.matrix.specs.Pieces.{Chosen}
 use Rattle.rebuilding.specs.Calls.{helpersRefusal}
-use Prim.Native.Nat.{ℕ, _≤_}
-
--- A helper of this rank for the lost node.
-pub record Helper (g : Group) (lost helper rank : ℕ) : Type 0 where
-  pub node : NodeOf g lost
-  pub other : NodeOf g helper
-  pub rank-low : 1 ≤ rank
-  pub rank-high : rank ≤ g .d
-  pub apart : helper ≡ lost → ⊥
 
 -- The lost node and d helpers that may rebuild it.
 pub record Helpers (g : Group) (lost : ℕ) (helpers : List ℕ) : Type 0 where

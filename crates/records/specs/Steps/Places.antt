@@ -5,8 +5,7 @@ use mathlib.Core.List.{List}
 use Prim.Native.Nat.{ℕ, zero, suc, _+_, _-_, _*_, _/_, _%_}
 use lib.Dec.{leb, ltb, eqb}
 use lib.ListN.{length, getD}
-use Rattle.letters.specs.Places.{both}
-use Rattle.group.specs.Ranges.{either}
+use Rattle.letters.specs.Places.{both, either}
 use Rattle.records.specs.Records.{kindFull, kindLast, blockSize, endSize, blockLetters, blocks, endRecord}
 
 -- the kind of block r, from 0: full, or the last

@@ -12,7 +12,7 @@ use Rattle.system.specs.Order.{ruled}
 use Rattle.system.specs.Count.{within, additions}
 use Rattle.group.specs.declared.Group.{Group}
 use Rattle.group.specs.Ranges.{longest}
-use Rattle.group.specs.Lengths.{fileLetters}
+use Rattle.lengths.specs.Lengths.{fileLetters}
 use Rattle.sequences.specs.Lists.{ranked}
 use Rattle.matrix.specs.Matrix.{entryNumber, matrix}
 use Rattle.matrix.specs.Pieces.{Chosen, pieceLetter}

@@ -3,7 +3,7 @@ use mathlib.Core.Path.{ap, _∙_}
 use native.Mathlib.Omega.{arith}
 use Rattle.group.proofs.InRange.{node-of}
 use Rattle.group.proofs.Refusals.{stopped, fine, refuses, gives}
-use Rattle.group.proofs.Sizes.{node-at-most}
+use Rattle.lengths.proofs.Sizes.{node-at-most}
 use Rattle.records.specs.Records.{sizeFor}
 use Rattle.heads.specs.Kind1.{kind1Size}
 use Rattle.share.specs.Calls.{shareBytes}

@@ -2,7 +2,7 @@
 use Rattle.matrix.specs.Matrix.{entryStart, matrix}
 use Rattle.letters.specs.Places.{letter}
 use Rattle.letters.proofs.Runs.{length-added}
-use Rattle.group.specs.Lengths.{packetLength}
+use Rattle.lengths.specs.Lengths.{packetLength}
 use Prim.Native.Nat.{_≤_, min}
 use mathlib.Core.Path.{refl, ap, _∙_}
 use mathlib.Core.Logic.{⊎-elim}

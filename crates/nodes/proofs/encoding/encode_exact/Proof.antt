@@ -3,7 +3,7 @@ use native.Mathlib.Omega.{arith}
 use mathlib.Core.Path.{refl, _∙_}
 use Rattle.group.proofs.InRange.{of-node}
 use Rattle.group.proofs.Refusals.{exact-lengths, stopped, fine}
-use Rattle.group.proofs.Sizes.{node-at-most}
+use Rattle.lengths.proofs.Sizes.{node-at-most}
 use Rattle.nodes.specs.Calls.{encodeRefusal}
 use Rattle.group.proofs.Called.{call-refused, call-fine, lengths-after}
 use Rattle.matrix.proofs.Product.{wide-packet, wide-node}

@@ -6,7 +6,7 @@ use native.Mathlib.Nat.{add-zero}
 use lib.ListN.{length}
 use Rattle.letters.specs.Algebra.{xors}
 use Rattle.shifts.specs.Rule.{t}
-use Rattle.group.specs.Lengths.{packetLength}
+use Rattle.lengths.specs.Lengths.{packetLength}
 use Rattle.matrix.specs.Matrix.{entryNumber, entryStart, matrix, packetLetter, packet}
 use Rattle.sequences.specs.Moved.{moved}
 use Rattle.sequences.specs.Steps.Windows.{Summed}

@@ -10,11 +10,11 @@ use Rattle.letters.proofs.Cases.{le-or-lt}
 use Rattle.letters.specs.Algebra.{xors}
 use Rattle.group.specs.declared.Group.{Group}
 use Rattle.group.specs.Ranges.{NodeOf}
-use Rattle.group.specs.Lengths.{packetStart, packetLength, nodeLetters}
+use Rattle.lengths.specs.Lengths.{packetStart, packetLength, nodeLetters}
 use Rattle.sequences.specs.Lists.{joined}
 use Rattle.matrix.specs.Matrix.{packet, packets as product}
 use Rattle.sequences.specs.Steps.Windows.{Zeros}
-use Rattle.group.proofs.Sizes.{node-at-most, packet-fits}
+use Rattle.lengths.proofs.Sizes.{node-at-most, packet-fits}
 use Rattle.sequences.proofs.Lists.{joined-more}
 use Rattle.matrix.proofs.Product.{packet-same, packet-first, packet-next, packet-last, length-packet}
 use Rattle.sequences.proofs.PutBack.{back, back-length, back-front, back-after}

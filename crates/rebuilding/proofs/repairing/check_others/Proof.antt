@@ -6,8 +6,8 @@ use borrow.Author.Needs.{needs}
 use Rattle.rebuilding.proofs.repairing.check_others.Statement.{statement}
 use Rattle.rebuilding.proofs.repairing.check_others.Tie as tie
 
-ids-requires : tie.Need-ids-requires
-ids-requires c κs = search needs
+check-requires : tie.Need-check-requires
+check-requires c κs = search needs
 
 enum-known-refusal : tie.Need-enum-known-refusal
 enum-known-refusal c = search needs
@@ -20,13 +20,13 @@ check-apart-requires c κs = search needs
 
 returns : tie.Need-returns
 unfolding helpersRefusal
-returns c = skipped _ _ _ (of-node _ _ (c .before .before .before .before .before .pre)) (passed-on _ _ _ _ (c .before .refusal .given .1) (c .before .before .before .ids .ensures))
+returns c = skipped _ _ _ (of-node _ _ (c .before .before .before .before .before .pre)) (passed-on _ _ _ _ (c .before .refusal .given .1) (c .before .before .before .check .ensures))
 
 returns-2 : tie.Need-returns-2
 unfolding helpersRefusal
-returns-2 c = skipped _ _ _ (of-node _ _ (c .before .before .before .before .before .pre)) (went-on _ _ _ _ (c .before .enum-told .given .1) (c .before .before .before .ids .ensures) (c .check-apart .ensures))
+returns-2 c = skipped _ _ _ (of-node _ _ (c .before .before .before .before .before .pre)) (went-on _ _ _ _ (c .before .enum-told .given .1) (c .before .before .before .check .ensures) (c .check-apart .ensures))
 
 pub check-others-spec : {M : Type 1} → statement M
 check-others-spec =
     tie.close
-    (tie.spec ids-requires enum-known-refusal enum-told check-apart-requires returns returns-2)
+    (tie.spec check-requires enum-known-refusal enum-told check-apart-requires returns returns-2)

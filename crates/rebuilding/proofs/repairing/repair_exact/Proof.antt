@@ -5,13 +5,13 @@ use Prim.Native.Nat.{ℕ, _*_, _≤_}
 use borrow.Author.Tests.{eq-eqb, ne-eqb}
 use Rattle.group.specs.declared.Group.{Group}
 use Rattle.group.specs.Ranges.{longestPacket, NodeOf}
-use Rattle.group.specs.Lengths.{repairLetters}
+use Rattle.lengths.specs.Lengths.{repairLetters}
 use Rattle.rebuilding.specs.Calls.{repairRefusal}
 use Rattle.sequences.proofs.Charted.{solvable}
 use Rattle.matrix.proofs.ChosenRanks.{known, ranks}
 use Rattle.matrix.proofs.Rebuilt.{same-buffer}
 use Rattle.rebuilding.proofs.RepairCalls.{repair-refused, repair-fine}
-use Rattle.group.proofs.Sizes.{repair-at-most}
+use Rattle.lengths.proofs.Sizes.{repair-at-most}
 use borrow.Author.Needs.{needs}
 use Rattle.rebuilding.proofs.repairing.repair_exact.Statement.{statement}
 use Rattle.rebuilding.proofs.repairing.repair_exact.Tie as tie

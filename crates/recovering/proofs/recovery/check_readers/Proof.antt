@@ -14,8 +14,8 @@ enum-known-refusal c = search needs
 enum-told : tie.Need-enum-told
 enum-told c = search needs
 
-ids-requires : tie.Need-ids-requires
-ids-requires c κs = search needs
+check-requires : tie.Need-check-requires
+check-requires c κs = search needs
 
 returns : tie.Need-returns
 unfolding readersRefusal
@@ -23,8 +23,8 @@ returns c = passed-on _ _ _ _ (c .before .refusal .given .1) (c .before .before 
 
 returns-2 : tie.Need-returns-2
 unfolding readersRefusal
-returns-2 c = went-on _ _ _ _ (c .before .enum-told .given .1) (c .before .before .before .group .ensures) (c .ids .ensures)
+returns-2 c = went-on _ _ _ _ (c .before .enum-told .given .1) (c .before .before .before .group .ensures) (c .check .ensures)
 
 pub check-readers-spec : {M : Type 1} → statement M
 check-readers-spec =
-    tie.close (tie.spec group-requires enum-known-refusal enum-told ids-requires returns returns-2)
+    tie.close (tie.spec group-requires enum-known-refusal enum-told check-requires returns returns-2)

@@ -2,11 +2,11 @@
 use mathlib.Core.Path.{_≡_, sym, ap, ap₂, _∙_}
 use native.Mathlib.Omega.{arith}
 use Rattle.group.proofs.Refusals.{exact-lengths, stopped, fine}
-use Rattle.group.proofs.Sizes.{node-at-most}
+use Rattle.lengths.proofs.Sizes.{node-at-most}
 use Prim.Native.Nat.{ℕ}
 use Rattle.group.specs.Answers.{first}
 use Rattle.group.specs.Ranges.{inputRefusal, outputRefusal}
-use Rattle.group.specs.Lengths.{nodeLetters}
+use Rattle.lengths.specs.Lengths.{nodeLetters}
 use Rattle.records.specs.Records.{sizeFor}
 use Rattle.heads.specs.declared.Head.{Head}
 use Rattle.heads.specs.Kind1.{kind1Size}

@@ -1,0 +1,2 @@
+-- What the exports for C return and leave.
+pub mod Exports

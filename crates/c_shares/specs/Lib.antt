@@ -1,0 +1,2 @@
+-- What the exported calls on shares promise.
+pub mod Shares

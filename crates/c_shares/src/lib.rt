@@ -1,0 +1,90 @@
+// Shares: written, read and judged.
+use heads::Head;
+use share::Judgment;
+ghost use mathlib.Core.Path.{_≡_};
+ghost use lib.ListN.{length};
+ghost use Rattle.share.specs.Calls.{writeRefusal, headFor};
+ghost use Rattle.heads.specs.Heads.{heads};
+ghost use Rattle.layout.specs.Share.{shareOf};
+ghost use Rattle.group.specs.Ranges.{groupOf};
+ghost use Rattle.c_answers.specs.Exports.{Fills};
+ghost use Rattle.c_shares.specs.Shares.{six, JudgesShare, ReadsShare, Misfits};
+
+// A node's packets as a share. Refusals: 1, 2, 3, 5 for the packets, 6 for the share.
+#[no_mangle]
+pub extern "C" fn dulvaspen_write_share(
+    n: usize,
+    k: usize,
+    d: usize,
+    l: usize,
+    node: usize,
+    batch: u32,
+    packets: &[u8],
+    share: &mut [u8],
+) -> usize
+    ensures { λ r. ⌜ Fills (writeRefusal (headFor (groupOf n k d l) node batch) (length (now (packets .entry))) (length (now (share .entry)))) (shareOf heads (headFor (groupOf n k d l) node batch) (now (packets .entry))) (now (share .entry)) (now (share .exit)) r ⌝ }
+{
+    let g = group::of(n, k, d, l);
+    group::answer_number(share::write(g, node, batch, packets, share))
+}
+
+// Puts a head's six numbers.
+fn put_head(head: Head, into: &mut [usize])
+    requires { ⌜ length (now into) ≡ 6 ⌝ }
+    ensures { λ r. ⌜ now (into .exit) ≡ six head ⌝ }
+{
+    into[0] = head.group.n;
+    into[1] = head.group.k;
+    into[2] = head.group.d;
+    into[3] = head.node;
+    into[4] = head.group.l;
+    into[5] = head.batch as usize;
+}
+
+// What bytes are, without copying letters. Refusals: 7, 8, and then 6 for a head that has not six numbers.
+#[no_mangle]
+pub extern "C" fn dulvaspen_judge_share(share: &[u8], head: &mut [usize]) -> usize
+    ensures { λ r. ⌜ JudgesShare (now (share .entry)) (now (head .entry)) r (now (head .exit)) ⌝ }
+{
+    match share::judge(share) {
+        Judgment::Complete(found) => {
+            if head.len() != 6 {
+                return 6;
+            }
+            put_head(found, head);
+            0
+        }
+        Judgment::Refused(refusal) => group::refusal_number(refusal),
+    }
+}
+
+// The number where the head has not six numbers: 7 and 8 come before 6.
+fn misfit(share: &[u8]) -> usize
+    ensures { λ r. ⌜ Misfits (now (share .entry)) r ⌝ }
+{
+    match share::judge(share) {
+        Judgment::Complete(_) => 6,
+        Judgment::Refused(refusal) => group::refusal_number(refusal),
+    }
+}
+
+// A share's letters and its head. Refusals: 7, 8, and then 6 for packets of another length than T, or a head that has not six numbers.
+#[no_mangle]
+pub extern "C" fn dulvaspen_read_share(
+    share: &[u8],
+    packets: &mut [u8],
+    head: &mut [usize],
+) -> usize
+    ensures { λ r. ⌜ ReadsShare (now (share .entry)) (now (packets .entry)) (now (head .entry)) r (now (packets .exit)) (now (head .exit)) ⌝ }
+{
+    if head.len() != 6 {
+        return misfit(share);
+    }
+    match share::read(share, packets) {
+        Judgment::Complete(found) => {
+            put_head(found, head);
+            0
+        }
+        Judgment::Refused(refusal) => group::refusal_number(refusal),
+    }
+}

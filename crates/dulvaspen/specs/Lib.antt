@@ -1,3 +1,0 @@
--- What the library for C promises.
-pub mod Exports
-pub mod Shares

@@ -1,0 +1,2 @@
+-- Why help keeps its contract.
+pub mod HelpCalls

@@ -1,0 +1,3 @@
+-- What a helper sends.
+pub mod Calls
+pub mod Steps

@@ -1,0 +1,2 @@
+-- Laws of lists of ids.
+pub mod Ids

@@ -1,0 +1,2 @@
+-- What a list of ids must be.
+pub mod Ids

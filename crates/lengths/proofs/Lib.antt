@@ -1,0 +1,2 @@
+-- How long each is at most.
+pub mod Sizes

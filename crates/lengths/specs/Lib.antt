@@ -1,0 +1,2 @@
+-- Every length, by name.
+pub mod Lengths

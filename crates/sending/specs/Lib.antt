@@ -1,0 +1,2 @@
+-- What a node sends for a recovery.
+pub mod Calls
