@@ -48,7 +48,7 @@
  * (examples/spread.c keeps the length in the first letters of a file's first batch). Nor is a flipped letter noticed: every letter may be
  * any byte. docs/SCHEME.md, 10, says what does notice it.
  *
- * The archive is made by `rt staticlib dulvaspen` (target/staticlib/libdulvaspen.a, for x86-64 Linux):
+ * The archive is made by `tools/library` (target/staticlib/libdulvaspen.a, for x86-64 Linux):
  *
  *   cc -Iinclude examples/night.c target/staticlib/libdulvaspen.a -o night
  *

@@ -12,7 +12,7 @@ use lib.Seq.{ext-getD}
 use borrow.Author.Tests.{le-ltb, eqb-true}
 use Rattle.letters.specs.Places.{either}
 use Rattle.letters.proofs.Cases.{le-or-lt}
-use Rattle.shifts.proofs.Entries.{listed, entry}
+use Rattle.layout.proofs.Entries.{listed, entry}
 use Rattle.records.specs.Records.{blockLetters, blockSize, endSize, blocks, sizeFor, endRecord}
 use Rattle.records.specs.Steps.Places.{blockKind, blockByte, blockStands, recordStands, letterIn}
 use Rattle.layout.specs.Layout.{Layout, sizeIn, totalIn}

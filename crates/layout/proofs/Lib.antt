@@ -7,3 +7,4 @@ pub mod Stands
 pub mod Accepted
 pub mod Completing
 pub mod Judgments
+pub mod Entries

@@ -5,7 +5,8 @@ use Prim.Native.Nat.{ℕ}
 use Rattle.shifts.specs.Rule.{t}
 use Rattle.lengths.specs.Lengths.{nodeLetters}
 use Rattle.heads.specs.declared.Head.{Head}
-use Rattle.verdict.specs.Line.{places, decimal, lineFor}
+use Rattle.text.specs.Text.{places, decimal}
+use Rattle.verdict.specs.Line.{lineFor}
 
 -- [3,2,2], L = 1, node 1, batch 7
 abbrev ninth : Head

@@ -8,14 +8,16 @@ use lib.Seq.{take-at}
 use Rattle.io.specs.Counts.{Counts}
 use Rattle.group.specs.declared.Refusal.{Refusal}
 use Rattle.group.specs.Answers.{refusalNumber, ifFine}
-use Rattle.group.specs.Ranges.{nodeRefusal, NodeOf}
+use Rattle.group.specs.Ranges.{NodeOf}
 use Rattle.lengths.specs.Lengths.{nodeLetters}
 use Rattle.group.proofs.InRange.{of-node}
 use Rattle.group.proofs.Refusals.{numbered}
 use Rattle.heads.specs.declared.Head.{Head}
+use Rattle.heads.specs.Kind1.{kind1Total}
 use Rattle.share.specs.declared.Judgment.{Judgment}
 use Rattle.share.specs.Calls.{judgmentNumber, headOf, noHead, Judges}
-use Rattle.verdict.specs.Line.{completeLine, refusedLine, lineFor, Line, Put, Told}
+use Rattle.text.specs.Text.{Put}
+use Rattle.verdict.specs.Line.{completeLine, refusedLine, lineFor, Line, Told}
 
 -- a complete share's node is one of its group
 node-in : {xs : List ℕ} {n : ℕ} {h : Head} → Judges xs n h → n ≡ 0 → NodeOf (h .group) (h .node)
@@ -46,8 +48,9 @@ counted {xs} {before} {after} {r} t =
 module _ (xs before : List ℕ) (r : ℕ) (after : List ℕ) (j : Judgment) (short : length xs ≤ 65536) (judges : Judges xs (judgmentNumber j) (headOf j)) where
   pub told-complete :
       (h : Head) (letters : ℕ) → j ≡ Judgment.Complete h
-      → letters ≡ ifFine (nodeRefusal (h .group) (h .node)) (nodeLetters (h .group) (h .node)) 0
+      → letters ≡ kind1Total h
       → Put before 0 (completeLine h letters) r after → Told xs before r after
+  unfolding kind1Total
   told-complete h letters e t put =
       let w : Judges xs 0 h = subst (λ k. Judges xs (judgmentNumber k) (headOf k)) e judges in
       let z : letters ≡ nodeLetters (h .group) (h .node) =

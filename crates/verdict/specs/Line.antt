@@ -2,23 +2,14 @@
 use mathlib.Core.Path.{_≡_}
 use mathlib.Core.Bool.{cond}
 use mathlib.Core.List.{List, [], _∷_, _++_}
-use Prim.Native.Nat.{ℕ, zero, suc, _+_, _/_, _≤_, _<_}
-use lib.Dec.{ltb, eqb}
-use lib.ListN.{length, take, drop}
-use Rattle.io.specs.Digits.{digits}
+use Prim.Native.Nat.{ℕ, zero, suc, _+_, _≤_, _<_}
+use lib.Dec.{eqb}
+use lib.ListN.{length, drop}
 use Rattle.group.specs.declared.Group.{Group}
 use Rattle.lengths.specs.Lengths.{nodeLetters}
 use Rattle.heads.specs.declared.Head.{Head}
 use Rattle.share.specs.Calls.{Judges}
-
--- how many decimal digits a number has, if it has at most one more than the first number says
-unfoldable pub places : ℕ → ℕ → ℕ
-places zero n = 1
-places (suc more) n = cond (ltb n 10) 1 (suc (places more (n / 10)))
-
--- a number below 10^20 in decimal, with no zeros in front
-unfoldable pub decimal : ℕ → List ℕ
-decimal n = digits 10 (places 19 n) n
+use Rattle.text.specs.Text.{numbered}
 
 -- "complete "
 abbrev pub completeWord : List ℕ
@@ -60,10 +51,6 @@ malformedLine = 109 ∷ 97 ∷ 108 ∷ 102 ∷ 111 ∷ 114 ∷ 109 ∷ 101 ∷ 1
 abbrev pub tooLongLine : List ℕ
 tooLongLine = 116 ∷ 111 ∷ 111 ∷ 32 ∷ 108 ∷ 111 ∷ 110 ∷ 103 ∷ 32 ∷ 102 ∷ 111 ∷ 114 ∷ 32 ∷ 116 ∷ 104 ∷ 105 ∷ 115 ∷ 32 ∷ 112 ∷ 114 ∷ 111 ∷ 103 ∷ 114 ∷ 97 ∷ 109 ∷ 10 ∷ []
 
--- a word and a number after it
-abbrev pub numbered : List ℕ → ℕ → List ℕ
-numbered word n = word ++ decimal n
-
 -- `complete` and the group's three numbers
 abbrev pub completeGroup : Group → List ℕ
 completeGroup g = numbered completeWord (g .n) ++ (numbered space (g .k) ++ numbered space (g .d))
@@ -91,12 +78,6 @@ lineFor (suc number) h = refusedLine (suc number)
 pub data Line (xs : List ℕ) : List ℕ → Type 0 where
   long : 65536 < length xs → Line xs tooLongLine
   judged : (number : ℕ) (h : Head) → length xs ≤ 65536 → Judges xs number h → Line xs (lineFor number h)
-
--- A text was put at index `at`; the answer is the index after it, and every other byte is as it was.
-pub record Put (before : List ℕ) (at : ℕ) (text : List ℕ) (r : ℕ) (after : List ℕ) : Type 0 where
-  pub room : at ≤ length before
-  pub count : r ≡ at + length text
-  pub holds : after ≡ take at before ++ (text ++ drop (at + length text) before)
 
 -- What the call answers and what the lent buffer then holds: how many bytes the line has; and the line at its start, every other byte as it was.
 pub record Told (xs before : List ℕ) (r : ℕ) (after : List ℕ) : Type 0 where

@@ -1,29 +1,15 @@
 // The line that the judge writes for any bytes (docs/SCHEME.md, 13). It is made here and nowhere else, so that every program that writes
 // it writes the same.
-mod text;
-
-use group::Answer;
 use group::Group;
 use heads::Head;
+use heads::kind1;
 use share::Judgment;
 ghost use mathlib.Core.Path.{_≡_};
 ghost use Prim.Native.Nat.{_≤_};
 ghost use lib.ListN.{length};
-ghost use Rattle.group.specs.Answers.{ifFine};
-ghost use Rattle.group.specs.Ranges.{nodeRefusal};
-ghost use Rattle.lengths.specs.Lengths.{nodeLetters};
 ghost use Rattle.io.specs.Counts.{Counts};
-ghost use Rattle.verdict.specs.Line.{Told, Put, completeGroup, completeLine, refusedLine};
-
-// T, the letters of a share with this head; 0 for a head that no share has.
-fn letters(head: Head) -> usize
-    ensures { λ r. ⌜ r ≡ ifFine (nodeRefusal (head .group) (head .node)) (nodeLetters (head .group) (head .node)) 0 ⌝ }
-{
-    match lengths::packet_letters(head.group, head.node) {
-        Answer::Value(letters) => letters,
-        Answer::Refused(_) => 0,
-    }
-}
+ghost use Rattle.text.specs.Text.{Put};
+ghost use Rattle.verdict.specs.Line.{Told, completeGroup, completeLine, refusedLine};
 
 // Puts `complete` and the group's three numbers.
 fn put_group(g: Group, line: &mut [u8]) -> usize
@@ -71,7 +57,7 @@ pub fn line(bytes: &[u8], line: &mut [u8; 192]) -> usize
         return text::put(line, 0, b"too long for this program\n");
     }
     match share::judge(bytes) {
-        Judgment::Complete(head) => put_complete(head, letters(head), line),
+        Judgment::Complete(head) => put_complete(head, kind1::total(head), line),
         Judgment::Refused(refusal) => put_refused(group::refusal_number(refusal), line),
     }
 }

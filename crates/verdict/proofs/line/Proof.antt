@@ -29,8 +29,8 @@ judge-requires c κs = search needs
 enum-known-head : tie.Need-enum-known-head
 enum-known-head c = search needs
 
-letters-requires : tie.Need-letters-requires
-letters-requires c κs = search needs
+total-requires : tie.Need-total-requires
+total-requires c κs = search needs
 
 put-complete-requires : tie.Need-put-complete-requires
 put-complete-requires c κs = search needs
@@ -49,7 +49,7 @@ returns-2 c =
     let a = c .before .before .before .before .before .before .before .before .before .args in
     let j = c .before .before .before .before .before .before .judge in
     both
-    (told-complete (a .bytes .now) (a .line .now) (c .put-complete .result) (c .put-complete .last .1 .1 .0) (j .result) (omega arith) (j .ensures) (c .before .before .before .before .head .given .0 .0) (c .before .before .letters .result) (c .before .before .before .before .head .given .1) (c .before .before .letters .ensures) (c .put-complete .ensures))
+    (told-complete (a .bytes .now) (a .line .now) (c .put-complete .result) (c .put-complete .last .1 .1 .0) (j .result) (omega arith) (j .ensures) (c .before .before .before .before .head .given .0 .0) (c .before .before .total .result) (c .before .before .before .before .head .given .1) (c .before .before .total .ensures) (c .put-complete .ensures))
 
 returns-3 : tie.Need-returns-3
 returns-3 c =
@@ -67,7 +67,7 @@ line-spec =
     returns
     judge-requires
     enum-known-head
-    letters-requires
+    total-requires
     put-complete-requires
     enum-known-refusal
     refusal-number-requires

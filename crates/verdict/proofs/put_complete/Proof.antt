@@ -1,7 +1,7 @@
 -- `put_complete` meets its contract: the group, then four numbers by name and the end of the line, each put after what stands before it.
 use mathlib.Core.Path.{_∙_}
 use borrow.Author.Needs.{needs}
-use Rattle.verdict.proofs.Putting.{then-put}
+use Rattle.text.proofs.Putting.{then-put}
 use Rattle.verdict.proofs.put_complete.Statement.{statement}
 use Rattle.verdict.proofs.put_complete.Tie as tie
 

@@ -1,7 +1,7 @@
 -- `put_group` meets its contract: three numbers, each put after the one before it.
 use native.Mathlib.Omega.{arith}
 use borrow.Author.Needs.{needs}
-use Rattle.verdict.proofs.Putting.{then-put}
+use Rattle.text.proofs.Putting.{then-put}
 use Rattle.verdict.proofs.put_group.Statement.{statement}
 use Rattle.verdict.proofs.put_group.Tie as tie
 

@@ -7,12 +7,12 @@ use native.Mathlib.Omega.{arith}
 use lib.ListN.{length, getD, set}
 use lib.Seq.{paste, paste-zero, paste-suc, length-paste}
 use borrow.Author.Needs.{needs}
-use Rattle.verdict.specs.Line.{Put}
-use Rattle.verdict.proofs.Putting.{pasted}
-use Rattle.verdict.proofs.text.put.Statement.{statement}
-use Rattle.verdict.proofs.text.put.Tie as tie
-use Rattle.verdict.proofs.text.put.Reads as reads
-use Rattle.verdict.proofs.text.put.Lts as lts
+use Rattle.text.specs.Text.{Put}
+use Rattle.text.proofs.Putting.{pasted}
+use Rattle.text.proofs.put.Statement.{statement}
+use Rattle.text.proofs.put.Tie as tie
+use Rattle.text.proofs.put.Reads as reads
+use Rattle.text.proofs.put.Lts as lts
 
 -- pasting keeps the length
 now-long : (before : List ℕ) (at : ℕ) (words : List ℕ) (i : ℕ) (line : List ℕ) → at + length words ≤ length before → i ≤ length words

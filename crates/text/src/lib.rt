@@ -1,7 +1,7 @@
 // Text put into a line, word by word.
 ghost use Prim.Native.Nat.{_+_, _≤_};
 ghost use lib.ListN.{length};
-ghost use Rattle.verdict.specs.Line.{Put, numbered};
+ghost use Rattle.text.specs.Text.{Put, numbered};
 
 // Puts words at index `at`. The answer is the index after them. They must fit.
 pub fn put(line: &mut [u8], at: usize, words: &[u8]) -> usize

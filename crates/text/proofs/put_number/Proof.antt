@@ -2,11 +2,11 @@
 use mathlib.Core.Path.{subst}
 use native.Mathlib.Omega.{arith}
 use borrow.Author.Needs.{needs}
-use Rattle.verdict.specs.Line.{Put}
-use Rattle.verdict.proofs.Decimals.{few, spelled}
-use Rattle.verdict.proofs.Putting.{then-put}
-use Rattle.verdict.proofs.text.put_number.Statement.{statement}
-use Rattle.verdict.proofs.text.put_number.Tie as tie
+use Rattle.text.specs.Text.{Put}
+use Rattle.text.proofs.Decimals.{few, spelled}
+use Rattle.text.proofs.Putting.{then-put}
+use Rattle.text.proofs.put_number.Statement.{statement}
+use Rattle.text.proofs.put_number.Tie as tie
 
 decimal-requires : tie.Need-decimal-requires
 decimal-requires c κs = search needs

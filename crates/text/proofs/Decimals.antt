@@ -8,7 +8,7 @@ use native.Mathlib.Omega.{arith}
 use lib.Dec.{ltb, leb}
 use borrow.Author.Tests.{ltb-true, ltb-false, leb-true, leb-false}
 use Rattle.io.specs.Digits.{digits, Fewest}
-use Rattle.verdict.specs.Line.{places, decimal}
+use Rattle.text.specs.Text.{places, decimal}
 
 -- the least that a number of so many digits is
 least : (n j : ℕ) → (1 < suc (suc j) → 10 ^ (suc (suc j) - 1) ≤ n) → 10 ^ suc j ≤ n

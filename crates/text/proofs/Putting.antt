@@ -5,7 +5,7 @@ use Prim.Native.Nat.{ℕ, _+_, _≤_}
 use native.Mathlib.Omega.{arith}
 use lib.ListN.{length, take, drop, length-append}
 use lib.Seq.{paste, take-length, length-take-le, take-at, drop-at, drop-drop}
-use Rattle.verdict.specs.Line.{Put}
+use Rattle.text.specs.Text.{Put}
 
 -- a whole text that is pasted is put
 pub pasted :

@@ -1,0 +1,2 @@
+-- Text in a line.
+pub mod Text
