@@ -16,7 +16,7 @@ use Rattle.letters.proofs.Worth.{worth-at-most}
 use Rattle.shifts.specs.Rule.{t}
 use Rattle.system.specs.System.{sequence}
 use Rattle.system.specs.Count.{within}
-use Rattle.solving.specs.Solver.{shiftIn}
+use Rattle.equation.specs.Rows.{shiftIn}
 use Rattle.system.proofs.System.{sequences}
 use Rattle.group.specs.declared.Group.{Group}
 use Rattle.group.specs.Ranges.{longest}

@@ -19,7 +19,8 @@ use Rattle.letters.proofs.Sums.{sum-same, sum-at-most}
 use Rattle.letters.proofs.Worth.{worthOf-at-most}
 use Rattle.system.specs.System.{sequence}
 use Rattle.system.specs.Count.{within, taken, ofEquation, additions}
-use Rattle.solving.specs.Solver.{shiftIn, Solved}
+use Rattle.equation.specs.Rows.{shiftIn}
+use Rattle.solving.specs.Solver.{Solved}
 use Rattle.system.proofs.System.{part-same, index-below}
 use Rattle.shifts.specs.Rule.{t}
 use Rattle.group.specs.declared.Group.{Group}

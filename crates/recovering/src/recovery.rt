@@ -128,7 +128,7 @@ fn push_run(
     ensures { λ r. ⌜ PushedRun g (now (ids .entry)) u c w (now (buffer .entry)) (now (buffer .exit)) r ⌝ }
     ensures bound { λ r. ⌜ r ≤ longest ⌝ }
 {
-    let moved = solving::place::shift_in(rows, w, u) - solving::place::shift_in(rows, w, w);
+    let moved = equation::place::shift_in(rows, w, u) - equation::place::shift_in(rows, w, w);
     if g.l <= moved {
         return 0;
     }

@@ -11,8 +11,8 @@ use Rattle.shifts.specs.Rule.{ShiftRule, Refined}
 use Rattle.system.specs.System.{part}
 use Rattle.system.specs.Order.{Falling, ruled}
 use Rattle.system.specs.Count.{taken, ofEquation, additions, other, within}
-use Rattle.solving.specs.Solver.{shiftIn, Solvable}
-use Rattle.solving.proofs.Ruled.{ruled-solvable}
+use Rattle.equation.specs.Rows.{shiftIn, Solvable}
+use Rattle.equation.proofs.Ruled.{ruled-solvable}
 use Rattle.system.proofs.System.{part-shifts}
 use Rattle.sequences.specs.Lists.{ranked}
 use Rattle.sequences.specs.Steps.Rows.{RowsOf}

@@ -10,8 +10,10 @@ use lib.ListN.{length, set, length-set}
 use Rattle.system.specs.System.{sequence}
 use Rattle.system.specs.Order.{delay}
 use Rattle.system.specs.Count.{ofEquation}
-use Rattle.solving.specs.Solver.{shiftIn, Solvable, Solved}
-use Rattle.solving.specs.Steps.Rounds.{time, others, Taken, Upto, Advanced}
+use Rattle.equation.specs.Rows.{shiftIn, Solvable}
+use Rattle.solving.specs.Solver.{Solved}
+use Rattle.equation.specs.Steps.Sums.{others, Taken}
+use Rattle.solving.specs.Steps.Rounds.{time, Upto, Advanced}
 use Rattle.solving.proofs.Steps.{idle, begun, ended, step}
 use Rattle.system.proofs.System.{indexOf, index-below, sequence-stored, sequence-kept}
 

@@ -7,7 +7,7 @@ use native.Mathlib.Omega.{arith}
 use Rattle.letters.proofs.Cases.{eq-or-ne}
 use Rattle.system.specs.Order.{delay}
 use Rattle.system.specs.Count.{place}
-use Rattle.solving.specs.Solver.{shiftIn, Solvable}
+use Rattle.equation.specs.Rows.{shiftIn, Solvable}
 use Rattle.solving.specs.Steps.Rounds.{AllInside, Lead}
 use Rattle.system.proofs.OneSolution.{earlier, own-place}
 

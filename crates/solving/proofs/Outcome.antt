@@ -9,7 +9,8 @@ use lib.Seq.{ext-getD}
 use Rattle.letters.specs.Algebra.{bytes}
 use Rattle.system.specs.System.{sequence}
 use Rattle.system.specs.Count.{additions}
-use Rattle.solving.specs.Solver.{shiftIn, Solvable, Solved}
+use Rattle.equation.specs.Rows.{shiftIn, Solvable}
+use Rattle.solving.specs.Solver.{Solved}
 use Rattle.system.proofs.OneSolution.{one-solution}
 use Rattle.system.proofs.System.{sequences, sequence-after}
 

@@ -15,7 +15,8 @@ use Rattle.letters.proofs.Sums.{sum-same, sum-none, sum-change, none-plus, plus
 use Rattle.system.specs.System.{part}
 use Rattle.system.specs.Order.{delay, Ordered}
 use Rattle.system.specs.Count.{place, other, within, taken, ofEquation, additions}
-use Rattle.solving.specs.Steps.Rounds.{time, others, tally, Upto}
+use Rattle.equation.specs.Steps.Sums.{others}
+use Rattle.solving.specs.Steps.Rounds.{time, tally, Upto}
 use Rattle.system.proofs.OneSolution.{earlier, own-place}
 use Rattle.system.proofs.System.{part-same}
 use Rattle.solving.proofs.Whole.{part-own}

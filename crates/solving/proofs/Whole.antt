@@ -12,8 +12,9 @@ use Rattle.letters.proofs.Sums.{sum-change, none-plus}
 use Rattle.letters.proofs.Worth.{worthOf-is-one}
 use Rattle.system.specs.System.{part, sequence}
 use Rattle.system.specs.Count.{place, taken, ofEquation}
-use Rattle.solving.specs.Solver.{shiftIn}
-use Rattle.solving.specs.Steps.Rounds.{others, Taken, AllInside}
+use Rattle.equation.specs.Rows.{shiftIn}
+use Rattle.equation.specs.Steps.Sums.{others, Taken}
+use Rattle.solving.specs.Steps.Rounds.{AllInside}
 use Rattle.system.proofs.OneSolution.{own-place}
 use Rattle.system.proofs.Within.{within-inside, other-same, other-apart}
 

@@ -1,32 +1,14 @@
--- The solver's contract: what it must be handed, and what it leaves.
+-- The solver's contract: what it leaves. What it must be handed is `Solvable` (equation/specs/Rows.antt).
 use mathlib.Core.Path.{_≡_}
 use mathlib.Core.List.{List}
-use Prim.Native.Nat.{ℕ, _+_, _-_, _*_, _^_, _≤_}
-use lib.ListN.{length, getD}
+use Prim.Native.Nat.{ℕ, _≤_}
+use lib.ListN.{length}
 use Rattle.letters.specs.Algebra.{xors}
 use Rattle.system.specs.System.{part, sequence}
-use Rattle.system.specs.Order.{Ordered}
 use Rattle.system.specs.Count.{additions}
+use Rattle.equation.specs.Rows.{shiftIn}
 
--- The shift of the node of rank b at column a, in a matrix of rows of sixteen.
-unfoldable pub shiftIn : List ℕ → ℕ → ℕ → ℕ
-shiftIn rows b a = getD rows ((b - 1) * 16 + (a - 1)) 0
-
--- The rows of s nodes: sixteen rows of sixteen, whose first s hold small shifts.
-pub record Rows (s : ℕ) (rows : List ℕ) : Type 0 where
-  pub some-nodes : 1 ≤ s
-  pub few-nodes : s ≤ 16
-  pub sixteen-rows : length rows ≡ 256
-  pub small : (b a : ℕ) → 1 ≤ b → b ≤ s → 1 ≤ a → a ≤ s → shiftIn rows b a ≤ 65535
-
--- What the solver must be handed beside s sequences of n letters: rows whose shifts give an order.
-pub record Solvable (s n : ℕ) (rows : List ℕ) : Type 0 where
-  pub some-letters : 1 ≤ n
-  pub few-letters : n ≤ 2 ^ 32
-  pub shifts : Rows s rows
-  pub ordered : Ordered s (shiftIn rows)
-
--- What it leaves: the parts of the sequences in the buffer at exit are what stood there at entry, and the count is what its additions are worth.
+-- The parts of the sequences in the buffer at exit are what stood there at entry, and the count is what its additions are worth.
 pub record Solved (s n : ℕ) (rows before after : List ℕ) (count : ℕ) : Type 0 where
   pub same-length : length after ≡ length before
   pub parts :

@@ -1,13 +1,15 @@
 // The solver of a system of shifted sums: s pieces of n letters are turned, where they lie, into the s sequences that they are sums of.
-pub mod place;
 mod rounds;
-mod sums;
 
 ghost use mathlib.Core.Path.{_≡_};
 ghost use Prim.Native.Nat.{_+_, _*_, _^_, _≤_, _<_};
 ghost use lib.ListN.{length};
-ghost use Rattle.solving.specs.Solver.{Solvable, Solved};
-ghost use Rattle.solving.specs.Steps.Rounds.{Advanced, Delays, Lead, Starts};
+ghost use Rattle.equation.specs.Rows.{Solvable};
+ghost use Rattle.equation.specs.Steps.Starts.{Delays, Starts};
+ghost use Rattle.solving.specs.Solver.{Solved};
+ghost use Rattle.solving.specs.Steps.Rounds.{Advanced, Lead};
+use equation::starts;
+use equation::sums;
 
 // Solves the system of `s` equations over `s` sequences of `n` letters each. `part` holds the s pieces one after another and is left with
 // the s sequences in their place; `rows` has the shift of the node of rank b at column a at index (b - 1) * 16 + (a - 1).
@@ -19,7 +21,7 @@ pub fn solve(part: &mut [u8], s: usize, n: usize, rows: &[usize]) -> usize
 {
     let delays = rounds::waits(s, rows);
     let lead = rounds::lead(s, rows, &delays);
-    let starts = rounds::starts(s, n, rows, &delays, lead);
+    let starts = starts::starts(s, n, rows, &delays, lead);
     let rounds = n + delays[s - 1];
     let mut count: usize = 0;
     let mut r = 0;

@@ -5,10 +5,10 @@ use native.Mathlib.Omega.{arith}
 use lib.ListN.{getD}
 use borrow.Author.Needs.{needs}
 use Rattle.system.specs.Order.{delay}
-use Rattle.solving.specs.Solver.{shiftIn}
+use Rattle.equation.specs.Rows.{shiftIn}
 use Rattle.solving.specs.Steps.Rounds.{AllInside}
 use Rattle.solving.proofs.Advance.{turn-letter}
-use Rattle.solving.proofs.Gathered.{starts-in, taken-gathered}
+use Rattle.solving.proofs.Started.{starts-in, taken-gathered}
 use Rattle.solving.proofs.Inside.{letter-inside, reads-inside}
 use Rattle.solving.proofs.rank_inside.Statement.{statement}
 use Rattle.solving.proofs.rank_inside.Tie as tie

@@ -5,7 +5,7 @@ use native.Mathlib.Omega.{arith}
 use lib.ListN.{getD}
 use borrow.Author.Needs.{needs}
 use Rattle.system.specs.Order.{delay}
-use Rattle.solving.specs.Solver.{shiftIn}
+use Rattle.equation.specs.Rows.{shiftIn}
 use Rattle.solving.proofs.Advance.{turn-idle, turn-letter}
 use Rattle.solving.proofs.rank_tested.Statement.{statement}
 use Rattle.solving.proofs.rank_tested.Tie as tie

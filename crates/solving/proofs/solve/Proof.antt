@@ -4,10 +4,10 @@ use Prim.Native.Nat.{ℕ, _≤_, _+_, _-_, _*_, _^_}
 use native.Mathlib.Omega.{arith}
 use lib.ListN.{length, getD}
 use Rattle.system.specs.Order.{delay}
-use Rattle.solving.specs.Solver.{shiftIn}
+use Rattle.equation.specs.Rows.{shiftIn}
 use Rattle.solving.specs.Steps.Rounds.{Advanced}
 use Rattle.solving.proofs.Advance.{advanced-then, advanced-idle, advanced-all}
-use Rattle.solving.proofs.Delays.{delay-small}
+use Rattle.equation.proofs.Delays.{delay-small}
 use Rattle.system.proofs.Order.{delay-rises}
 use Rattle.solving.proofs.solve.Statement.{statement}
 use Rattle.solving.proofs.solve.Tie as tie

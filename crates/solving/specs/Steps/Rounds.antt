@@ -2,30 +2,18 @@
 use mathlib.Core.Path.{_≡_}
 use mathlib.Core.Bool.{cond}
 use mathlib.Core.List.{List}
-use Prim.Native.Nat.{ℕ, _+_, _-_, _*_, _≤_, _<_}
-use lib.Bits.{bitXor}
-use lib.Dec.{eqb, ltb}
-use lib.ListN.{length, getD}
+use Prim.Native.Nat.{ℕ, _+_, _*_, _≤_, _<_}
+use lib.Dec.{ltb}
+use lib.ListN.{length}
 use Rattle.letters.specs.Algebra.{xors, counts, sum}
 use Rattle.system.specs.System.{part, sequence}
 use Rattle.system.specs.Order.{delay}
 use Rattle.system.specs.Count.{place, ofEquation}
-use Rattle.solving.specs.Solver.{shiftIn}
+use Rattle.equation.specs.Rows.{shiftIn}
 
 -- The order of the letters as one number: round first, and in a round rank first. There are at most sixteen ranks.
 abbrev pub time : (ℕ → ℕ → ℕ) → ℕ → ℕ → ℕ
 time t b p = 16 * (delay t b + p) + b
-
--- The sum of the letters that equation (b,p) takes from all other sequences.
-unfoldable pub others : ℕ → (ℕ → ℕ → ℕ) → (ℕ → ℕ → ℕ) → ℕ → ℕ → ℕ
-unfolding sum
-others s t x b p = sum xors s (λ a. cond (eqb a b) 0 (x a (place t b p a)))
-
--- Letter p of sequence b once its equation has taken what it takes from the first m sequences, and the count: its own adds nothing and counts nothing.
-pub record Taken (m n : ℕ) (rows buffer : List ℕ) (b p letter count : ℕ) : Type 0 where
-  pub summed : letter ≡ bitXor (sequence 0 buffer n b p) (others m (shiftIn rows) (sequence 0 buffer n) b p)
-  pub counted : count ≡ ofEquation m n (shiftIn rows) (sequence 0 buffer n) b p
-  pub few : count ≤ m
 
 -- What the additions of the equations before a time are worth.
 unfoldable pub tally : ℕ → ℕ → (ℕ → ℕ → ℕ) → (ℕ → ℕ → ℕ) → ℕ → ℕ
@@ -45,11 +33,6 @@ pub record Advanced (s n : ℕ) (rows before after : List ℕ) (from to count : 
       (y : ℕ → ℕ → ℕ) (m : ℕ) → Upto s n (shiftIn rows) y (sequence 0 before n) from m
       → Upto s n (shiftIn rows) y (sequence 0 after n) to (m + count)
 
--- The delays of the s ranks, in an array.
-pub record Delays (s : ℕ) (rows delays : List ℕ) : Type 0 where
-  pub sixteen : length delays ≡ 16
-  pub each : (u : ℕ) → 1 ≤ u → u ≤ s → getD delays (u - 1) 0 ≡ delay (shiftIn rows) u
-
 -- All letters that equation (b,p) takes lie inside 1..n, so that none needs a test.
 pub record AllInside (s n : ℕ) (rows : List ℕ) (b p : ℕ) : Type 0 where
   pub from-one : (a : ℕ) → 1 ≤ a → a ≤ s → 1 ≤ place (shiftIn rows) b p a
@@ -59,17 +42,3 @@ pub record AllInside (s n : ℕ) (rows : List ℕ) (b p : ℕ) : Type 0 where
 abbrev pub Lead : ℕ → List ℕ → ℕ → Type 0
 Lead s rows lead =
     (b a : ℕ) → 1 ≤ b → b ≤ s → 1 ≤ a → a ≤ s → delay (shiftIn rows) b + shiftIn rows b a ≤ lead + shiftIn rows b b
-
--- The index at which equation b reads sequence a in round `lead` + 1: one more for each round after it.
-abbrev pub startOf : ℕ → List ℕ → ℕ → ℕ → ℕ → ℕ
-startOf n rows lead b a = (a - 1) * n + ((lead + shiftIn rows b b) - (delay (shiftIn rows) b + shiftIn rows b a))
-
--- These indices for all ranks, in rows of sixteen.
-pub record Starts (s n : ℕ) (rows : List ℕ) (lead : ℕ) (starts : List ℕ) : Type 0 where
-  pub sixteen-rows : length starts ≡ 256
-  pub each : (b a : ℕ) → 1 ≤ b → b ≤ s → 1 ≤ a → a ≤ s → shiftIn starts b a ≡ startOf n rows lead b a
-
--- The sum of the m letters that stand `step` after the starts of row u.
-unfoldable pub gathered : ℕ → List ℕ → List ℕ → ℕ → ℕ → ℕ
-unfolding sum
-gathered m starts buffer u step = sum xors m (λ a. getD buffer (shiftIn starts u a + step) 0)

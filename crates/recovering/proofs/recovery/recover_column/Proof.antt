@@ -4,7 +4,7 @@ use mathlib.Core.Path.{sym, ap, subst, _∙_}
 use Prim.Native.Nat.{_+_, _*_}
 use native.Mathlib.Nat.{mul-le-mul}
 use Rattle.system.specs.System.{sequence}
-use Rattle.solving.specs.Solver.{shiftIn, Solvable}
+use Rattle.equation.specs.Rows.{shiftIn, Solvable}
 use Rattle.sequences.proofs.Charted.{solvable}
 use Rattle.matrix.proofs.ChosenRanks.{ranks}
 use Rattle.recovering.proofs.SolveColumn.{column-fits, lent-size, lent-length, additions-bound, solved-as, middle-length, column-done}

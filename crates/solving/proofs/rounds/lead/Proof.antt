@@ -3,8 +3,8 @@ use Prim.Native.Nat.{ℕ, _≤_, _+_, _-_}
 use native.Mathlib.Omega.{arith}
 use lib.ListN.{getD}
 use Rattle.system.specs.Order.{delay}
-use Rattle.solving.specs.Solver.{shiftIn}
-use Rattle.solving.proofs.Delays.{delay-at, delay-small}
+use Rattle.equation.specs.Rows.{shiftIn}
+use Rattle.equation.proofs.Delays.{delay-at, delay-small}
 use Rattle.system.proofs.Order.{one-more}
 use Rattle.solving.proofs.rounds.lead.Statement.{statement}
 use Rattle.solving.proofs.rounds.lead.Tie as tie

@@ -1,10 +1,11 @@
--- `solving::waits` meets its contract: each rank's delay is the one before it and the gap between them.
+-- `solving::rounds::waits` meets its contract: each rank's delay is the one before it and the gap between them.
 use mathlib.Core.Path.{_≡_, refl, ap, ap₂, _∙_}
 use Prim.Native.Nat.{_≤_, _+_, _-_}
 use native.Mathlib.Omega.{arith}
 use lib.ListN.{length, length-set, getD, replicate}
-use Rattle.solving.specs.Solver.{shiftIn}
-use Rattle.solving.proofs.Delays.{Filled, filled-first, filled-more, delay-small}
+use Rattle.equation.specs.Rows.{shiftIn}
+use Rattle.equation.proofs.Delays.{delay-small}
+use Rattle.solving.proofs.Filled.{Filled, filled-first, filled-more}
 use Rattle.solving.proofs.rounds.waits.Statement.{statement}
 use Rattle.solving.proofs.rounds.waits.Tie as tie
 

@@ -1,7 +1,7 @@
 -- `solving::rounds::widest` meets its contract: after a turns it has the widest of the first a shifts.
 use Prim.Native.Nat.{ℕ, _≤_, _+_, _-_}
 use native.Mathlib.Omega.{arith}
-use Rattle.solving.specs.Solver.{shiftIn}
+use Rattle.equation.specs.Rows.{shiftIn}
 use Rattle.system.proofs.Order.{one-more}
 use Rattle.solving.proofs.rounds.widest.Statement.{statement}
 use Rattle.solving.proofs.rounds.widest.Tie as tie
