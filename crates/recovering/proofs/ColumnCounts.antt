@@ -15,7 +15,8 @@ use Rattle.matrix.specs.Pieces.{Chosen}
 use Rattle.matrix.specs.Counts.{takingOut, recoveryCount}
 use Rattle.matrix.proofs.Product.{free}
 use Rattle.matrix.proofs.Reading.{shifts}
-use Rattle.recovering.specs.Steps.Recovery.{standing, seenAt, runWorth, columnWorth}
+use Rattle.columns.specs.Steps.Columns.{standing, seenAt, runWorth}
+use Rattle.recovering.specs.Steps.Recovery.{columnWorth}
 
 -- a sum from its first term on
 pub sum-first : {A : Type 0} (𝓐 : Adding A) (n : ℕ) (f : ℕ → A) → sum 𝓐 (1 + n) f ≡ 𝓐 .plus (f 1) (sum 𝓐 n (λ i. f (1 + i)))

@@ -1,7 +1,6 @@
 -- Why recovery keeps its contract: column by column, from the last one down.
 pub mod ColumnCounts
 pub mod Outcomes
-pub mod Pushing
 pub mod RecoverCalls
 pub mod SolveColumn
 pub mod Stages

@@ -20,7 +20,8 @@ use Rattle.matrix.specs.Pieces.{reading}
 use Rattle.matrix.specs.Counts.{recoveryCount}
 use Rattle.recovering.specs.Calls.{readersRefusal, recoverRefusal, Recovered}
 use Rattle.recovering.specs.Steps.Checked.{Readers}
-use Rattle.recovering.specs.Steps.Recovery.{Collected, Stage}
+use Rattle.columns.specs.Steps.Columns.{Collected}
+use Rattle.recovering.specs.Steps.Recovery.{Stage}
 use Rattle.matrix.proofs.ChosenIds.{chosen-of}
 use Rattle.recovering.proofs.Stages.{stage-end}
 

@@ -28,7 +28,8 @@ use Rattle.group.specs.Ranges.{longest}
 use Rattle.lengths.specs.Lengths.{fileLetters}
 use Rattle.matrix.specs.Matrix.{before, entryNumber}
 use Rattle.sequences.specs.Steps.Rows.{RowsOf}
-use Rattle.recovering.specs.Steps.Recovery.{entriesMost, columnMost, standing, seenAt, Collected, runWorth, columnWorth, Pushed, Column}
+use Rattle.columns.specs.Steps.Columns.{entriesMost, columnMost, standing, seenAt, Collected, runWorth, Pushed}
+use Rattle.recovering.specs.Steps.Recovery.{columnWorth, Column}
 use Rattle.matrix.proofs.ChosenRanks.{ranks}
 use Rattle.sequences.proofs.Charted.{additions-same, charted-part, charted-additions}
 use Rattle.matrix.proofs.Columns.{before-apart, before-all}

@@ -17,7 +17,8 @@ use Rattle.matrix.specs.Matrix.{matrix}
 use Rattle.matrix.specs.Pieces.{pieceLetter, reading}
 use Rattle.matrix.specs.Counts.{recoveryCount}
 use Rattle.recovering.proofs.ColumnCounts.{sum-first, columns-count}
-use Rattle.recovering.specs.Steps.Recovery.{standing, seenAt, Collected, runWorth, columnWorth, Column, Stage}
+use Rattle.columns.specs.Steps.Columns.{standing, seenAt, Collected, runWorth}
+use Rattle.recovering.specs.Steps.Recovery.{columnWorth, Column, Stage}
 use Rattle.sequences.proofs.Charted.{additions-same}
 use Rattle.matrix.proofs.Files.{is-asFile}
 use Rattle.matrix.proofs.Product.{corner, free}

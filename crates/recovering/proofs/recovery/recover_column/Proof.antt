@@ -9,7 +9,7 @@ use Rattle.sequences.proofs.Charted.{solvable}
 use Rattle.matrix.proofs.ChosenRanks.{ranks}
 use Rattle.recovering.proofs.SolveColumn.{column-fits, lent-size, lent-length, additions-bound, solved-as, middle-length, column-done}
 use Rattle.group.specs.Ranges.{longest}
-use Rattle.recovering.specs.Steps.Recovery.{entriesMost}
+use Rattle.columns.specs.Steps.Columns.{entriesMost}
 use borrow.Author.Needs.{needs}
 use Rattle.recovering.proofs.recovery.recover_column.Statement.{statement}
 use Rattle.recovering.proofs.recovery.recover_column.Tie as tie

@@ -1,7 +1,8 @@
 -- `recovery::recover_columns` meets its contract: after each turn one column more is done.
 use mathlib.Core.Path.{_≡_, subst, _∙_}
 use Prim.Native.Nat.{_+_, _-_, _*_, _≤_}
-use Rattle.recovering.specs.Steps.Recovery.{columnMost, Stage}
+use Rattle.columns.specs.Steps.Columns.{columnMost}
+use Rattle.recovering.specs.Steps.Recovery.{Stage}
 use Rattle.recovering.proofs.Stages.{stage-start, stage-next}
 use native.Mathlib.Omega.{arith}
 use Rattle.recovering.proofs.recovery.recover_columns.Statement.{statement}

@@ -1,10 +1,10 @@
 -- `recovery::push_run` meets its contract: the run reaches the entry or doesn't.
 use native.Mathlib.Omega.{arith}
 use mathlib.Core.Path.{refl}
-use Rattle.recovering.proofs.Pushing.{shifts-rise, runs-fit, push-done, push-nothing}
+use Rattle.columns.proofs.Pushing.{shifts-rise, runs-fit, push-done, push-nothing}
 use borrow.Author.Needs.{needs}
-use Rattle.recovering.proofs.recovery.push_run.Statement.{statement}
-use Rattle.recovering.proofs.recovery.push_run.Tie as tie
+use Rattle.columns.proofs.push_run.Statement.{statement}
+use Rattle.columns.proofs.push_run.Tie as tie
 
 shift-in-requires : tie.Need-shift-in-requires
 shift-in-requires c κs = search needs

@@ -22,7 +22,7 @@ use Rattle.group.specs.declared.Group.{Group}
 use Rattle.group.specs.Ranges.{longest}
 use Rattle.sequences.specs.Lists.{ranked}
 use Rattle.matrix.specs.Matrix.{entryNumber}
-use Rattle.recovering.specs.Steps.Recovery.{standing, seenAt, Collected, runWorth, PushedRun, PushedInto, Pushed}
+use Rattle.columns.specs.Steps.Columns.{standing, seenAt, Collected, runWorth, PushedRun, PushedInto, Pushed}
 use Rattle.sequences.specs.Steps.Rows.{RowsOf}
 use Rattle.sequences.proofs.Charted.{rows-shift}
 use Rattle.matrix.proofs.Columns.{before-apart, entry-one, entry-fits, from-one}

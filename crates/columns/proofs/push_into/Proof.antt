@@ -2,12 +2,12 @@
 use native.Mathlib.Omega.{arith}
 use mathlib.Core.Path.{_≡_, subst, _∙_}
 use Prim.Native.Nat.{_-_, _*_, _≤_}
-use Rattle.recovering.specs.Steps.Recovery.{PushedInto}
-use Rattle.recovering.proofs.Pushing.{into-none, into-more}
+use Rattle.columns.specs.Steps.Columns.{PushedInto}
+use Rattle.columns.proofs.Pushing.{into-none, into-more}
 use Rattle.group.specs.Ranges.{longest}
 use borrow.Author.Needs.{needs}
-use Rattle.recovering.proofs.recovery.push_into.Statement.{statement}
-use Rattle.recovering.proofs.recovery.push_into.Tie as tie
+use Rattle.columns.proofs.push_into.Statement.{statement}
+use Rattle.columns.proofs.push_into.Tie as tie
 
 abbrev Inv-loop : tie.InvT-loop
 Inv-loop g ids rows u c buffer₀ count₀ w₀ buffer count w = (w ≤ c) × PushedInto g ids u c w buffer₀ buffer count × (count ≤ w * longest)

@@ -1,13 +1,13 @@
 -- `recovery::push_column` meets its contract: after each turn one earlier column more is done.
 use mathlib.Core.Path.{_≡_, subst, _∙_}
 use Prim.Native.Nat.{_-_, _*_, _≤_, min}
-use Rattle.recovering.specs.Steps.Recovery.{Pushed}
-use Rattle.recovering.proofs.Pushing.{push-none, push-more}
-use Rattle.recovering.specs.Steps.Recovery.{entriesMost}
+use Rattle.columns.specs.Steps.Columns.{Pushed}
+use Rattle.columns.proofs.Pushing.{push-none, push-more}
+use Rattle.columns.specs.Steps.Columns.{entriesMost}
 use borrow.Author.Needs.{needs}
 use native.Mathlib.Omega.{arith}
-use Rattle.recovering.proofs.recovery.push_column.Statement.{statement}
-use Rattle.recovering.proofs.recovery.push_column.Tie as tie
+use Rattle.columns.proofs.push_column.Statement.{statement}
+use Rattle.columns.proofs.push_column.Tie as tie
 
 abbrev Inv-loop : tie.InvT-loop
 Inv-loop g ids rows u buffer₀ columns count₀ c₀ buffer count c = (c ≤ columns) × (columns ≡ min (u - 1) (g .k)) × Pushed g ids u c buffer₀ buffer count × (count ≤ c * entriesMost)

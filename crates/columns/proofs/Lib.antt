@@ -1,0 +1,2 @@
+-- Why each entry loses what it loses.
+pub mod Pushing

@@ -1,0 +1,2 @@
+-- A solved column taken out of those before it.
+pub mod Steps
