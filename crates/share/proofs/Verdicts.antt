@@ -23,7 +23,8 @@ use Rattle.heads.specs.declared.Head.{Head}
 use Rattle.share.specs.declared.Judgment.{Judgment}
 use Rattle.heads.specs.Heads.{heads}
 use Rattle.share.specs.Calls.{judgmentNumber, headOf, noHead, Judges, Reads}
-use Rattle.share.specs.Steps.Reading.{Stops, judgmentAt}
+use Rattle.searching.specs.Steps.Search.{Stops}
+use Rattle.share.specs.Steps.Reading.{judgmentAt}
 use Rattle.heads.proofs.Kind1Laws.{lawful}
 
 -- the judgment where the loops stop

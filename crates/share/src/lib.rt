@@ -1,6 +1,5 @@
 // A node's packets as stored bytes: the share, written, judged and read.
 mod reading;
-mod search;
 mod writing;
 
 use group::Answer;
@@ -60,7 +59,7 @@ pub fn judge(share: &[u8]) -> Judgment
 {
     let head = kind1::head_in(share);
     let letters = kind1::total(head);
-    let at = search::first_wrong(share, kind1::SIZE, head, letters);
+    let at = searching::first_wrong(share, kind1::SIZE, head, letters);
     reading::judged(kind1::SIZE, head, letters, at, share.len())
 }
 

@@ -1,22 +1,11 @@
 -- What the reader's loops find.
-use mathlib.Core.Path.{_≡_}
-use mathlib.Core.Bool.{true, false, cond}
-use mathlib.Core.List.{List}
-use Prim.Native.Nat.{ℕ, _≤_, _<_}
+use mathlib.Core.Bool.{cond}
+use Prim.Native.Nat.{ℕ}
 use lib.Dec.{ltb, eqb}
-use lib.ListN.{length}
 use Rattle.group.specs.declared.Refusal.{Refusal}
 use Rattle.records.specs.Records.{sizeFor}
-use Rattle.layout.specs.Steps.Stands.{stands}
 use Rattle.heads.specs.declared.Head.{Head}
 use Rattle.share.specs.declared.Judgment.{Judgment}
-use Rattle.heads.specs.Heads.{heads}
-
--- every byte before index q stands; and q is past the last byte, or that byte doesn't stand
-pub record Stops (xs : List ℕ) (q : ℕ) : Type 0 where
-  pub within : q ≤ length xs
-  pub before : (p : ℕ) → p < q → stands heads xs p ≡ true
-  pub wrong : q < length xs → stands heads xs q ≡ false
 
 -- the judgment of so many bytes that stand up to this index, with a head of this size: all of them do where there is no more
 abbrev pub judgmentAt : ℕ → Head → ℕ → ℕ → ℕ → Judgment

@@ -1,0 +1,2 @@
+-- Where the search stands between two bytes.
+pub mod Walk

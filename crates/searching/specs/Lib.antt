@@ -1,0 +1,2 @@
+-- The search for the first wrong byte.
+pub mod Steps
