@@ -8,9 +8,10 @@ use Rattle.group.specs.declared.Refusal.{Refusal}
 use Rattle.group.specs.Answers.{refusalNumber}
 use Rattle.group.proofs.Refusals.{numbered}
 use Rattle.heads.specs.declared.Head.{Head}
-use Rattle.share.specs.declared.Judgment.{Judgment}
-use Rattle.share.specs.Calls.{judgmentNumber, headOf, noHead, Judges, Reads}
-use Rattle.share.proofs.Verdicts.{found-share}
+use Rattle.judging.specs.declared.Judgment.{Judgment}
+use Rattle.share.specs.Calls.{Reads}
+use Rattle.judging.specs.Judging.{judgmentNumber, headOf, noHead, Judges}
+use Rattle.judging.proofs.Verdicts.{found-share}
 use Rattle.c_shares.specs.Shares.{six, JudgesShare, ReadsShare, Misfits}
 
 -- six stores into six numbers

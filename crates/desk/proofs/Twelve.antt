@@ -18,7 +18,8 @@ use Rattle.layout.specs.Share.{shareOf, ShareOf}
 use Rattle.layout.specs.Judgment.{IsShare}
 use Rattle.layout.proofs.Judgments.{cut-is-beginning, share-then-more, nothing-begins}
 use Rattle.heads.specs.Heads.{heads}
-use Rattle.share.specs.Calls.{noHead, headFor, Judges}
+use Rattle.share.specs.Calls.{headFor}
+use Rattle.judging.specs.Judging.{noHead, Judges}
 use Rattle.heads.proofs.Kind1Laws.{lawful, total-of}
 use Rattle.desk.specs.Examples.{AllHold, one, stored, twelve}
 

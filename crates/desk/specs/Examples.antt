@@ -12,7 +12,8 @@ use Rattle.matrix.specs.Counts.{recoveryCost}
 use Rattle.matrix.specs.Repair.{helping, equations}
 use Rattle.layout.specs.Share.{shareOf}
 use Rattle.heads.specs.Heads.{heads}
-use Rattle.share.specs.Calls.{noHead, headFor, Judges}
+use Rattle.share.specs.Calls.{headFor}
+use Rattle.judging.specs.Judging.{noHead, Judges}
 
 pub data Example : Type 0 where
   -- the packets that a node holds of a file

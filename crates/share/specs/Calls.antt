@@ -5,35 +5,16 @@ use Prim.Native.Nat.{ℕ}
 use lib.ListN.{length}
 use Rattle.group.specs.declared.Group.{Group}
 use Rattle.group.specs.declared.Answer.{Answer}
-use Rattle.group.specs.Answers.{refusalNumber, first, ifFine, Answers}
-use Rattle.group.specs.Ranges.{groupOf, nodeRefusal, inputRefusal, outputRefusal}
+use Rattle.group.specs.Answers.{first, ifFine, Answers}
+use Rattle.group.specs.Ranges.{nodeRefusal, inputRefusal, outputRefusal}
 use Rattle.lengths.specs.Lengths.{nodeLetters}
 use Rattle.records.specs.Records.{sizeFor}
 use Rattle.layout.specs.Share.{shareOf, ShareOf}
 use Rattle.layout.specs.Judgment.{IsBeginning, IsNeither}
 use Rattle.heads.specs.declared.Head.{Head}
-use Rattle.share.specs.declared.Judgment.{Judgment}
+use Rattle.judging.specs.Judging.{noHead}
 use Rattle.heads.specs.Kind1.{kind1Size}
 use Rattle.heads.specs.Heads.{heads}
-
--- a judgment's number: 0 where the bytes are complete
-abbrev pub judgmentNumber : Judgment → ℕ
-judgmentNumber (Judgment.Complete h) = 0
-judgmentNumber (Judgment.Refused r) = refusalNumber r
-
--- its values, the head's numbers; a refusal carries zeros
-abbrev pub noHead : Head
-noHead = record { group = groupOf 0 0 0 0; node = 0; batch = 0 }
-
-abbrev pub headOf : Judgment → Head
-headOf (Judgment.Complete h) = h
-headOf (Judgment.Refused r) = noHead
-
--- The number and the head that judging these bytes gives.
-pub data Judges (xs : List ℕ) : ℕ → Head → Type 0 where
-  complete : (h : Head) (letters : List ℕ) → ShareOf heads h letters xs → Judges xs 0 h
-  unfinished : IsBeginning heads xs → Judges xs 7 noHead
-  malformed : IsNeither heads xs → Judges xs 8 noHead
 
 -- The number and the head that reading these bytes gives, and what the lent buffer then holds: 7 and 8 are decided before 6.
 pub data Reads (xs before : List ℕ) : ℕ → Head → List ℕ → Type 0 where

@@ -1,3 +1,2 @@
 -- What the calls promise.
 pub mod Calls
-pub mod Steps

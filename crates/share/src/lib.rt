@@ -9,19 +9,14 @@ use group::Refusal;
 use group::checks;
 use heads::Head;
 use heads::kind1;
+pub use judging::Judgment;
+pub use judging::judge;
 use lengths::known;
 use records::sizes;
 ghost use Rattle.group.specs.Answers.{Answers};
 ghost use Rattle.group.specs.Ranges.{nodeRefusal};
-ghost use Rattle.share.specs.Calls.{Judges, Reads, Written, judgmentNumber, headOf, headFor, shareBytes};
-
-// What bytes are found to be. `judgmentNumber` and `headOf` in specs/ give the number and values of document 01 (docs/SCHEME.md, 11) for each case.
-pub enum Judgment {
-    // A share, and its head.
-    Complete(Head),
-    // 7: the beginning of some share, but not all of it. 8: neither. Reading also has 6.
-    Refused(Refusal),
-}
+ghost use Rattle.share.specs.Calls.{Reads, Written, headFor, shareBytes};
+ghost use Rattle.judging.specs.Judging.{judgmentNumber, headOf};
 
 // The bytes of a node's share. Refusals: 1, 2, 3.
 pub fn share_bytes(g: Group, node: usize) -> Answer
@@ -50,17 +45,6 @@ pub fn write(g: Group, node: usize, batch: u32, packets: &[u8], share: &mut [u8]
             share,
         ),
     }
-}
-
-// Judges any bytes without copying letters: a share and its head, the beginning of one (7, no bytes included), or
-// neither (8).
-pub fn judge(share: &[u8]) -> Judgment
-    ensures { λ r. ⌜ Judges (now (share .entry)) (judgmentNumber r) (headOf r) ⌝ }
-{
-    let head = kind1::head_in(share);
-    let letters = kind1::total(head);
-    let at = searching::first_wrong(share, kind1::SIZE, head, letters);
-    reading::judged(kind1::SIZE, head, letters, at, share.len())
 }
 
 // Reads any bytes. Of a share, the answer is the head, and `packets`, which must have exactly T letters, then holds its

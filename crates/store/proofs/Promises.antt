@@ -46,8 +46,10 @@ use Rattle.layout.proofs.Judgments.{cut-is-beginning}
 use Rattle.heads.specs.declared.Head.{Head}
 use Rattle.heads.specs.Heads.{heads}
 use Rattle.heads.proofs.Kind1Laws.{lawful}
-use Rattle.share.specs.Calls.{noHead, Judges, Reads, Written}
-use Rattle.share.proofs.Outcomes.{same-judging, same-reading}
+use Rattle.share.specs.Calls.{Reads, Written}
+use Rattle.judging.specs.Judging.{noHead, Judges}
+use Rattle.share.proofs.Outcomes.{same-reading}
+use Rattle.judging.proofs.Outcomes.{same-judging}
 use Rattle.share.proofs.RoundTrip.{written}
 use Rattle.store.specs.Reading.{Collects}
 use Rattle.store.specs.Repairing.{Rebuilds}

@@ -6,9 +6,9 @@ use native.Mathlib.Omega.{arith}
 use lib.ListN.{length, drop}
 use Rattle.group.specs.declared.Refusal.the-variants.{Unfinished, Malformed}
 use Rattle.heads.specs.declared.Head.{Head}
-use Rattle.share.specs.declared.Judgment.{Judgment}
-use Rattle.share.specs.Calls.{judgmentNumber, headOf, Judges}
-use Rattle.share.proofs.Outcomes.{one-judging}
+use Rattle.judging.specs.declared.Judgment.{Judgment}
+use Rattle.judging.specs.Judging.{judgmentNumber, headOf, Judges}
+use Rattle.judging.proofs.Outcomes.{one-judging}
 use Rattle.verdict.specs.Line.{lineFor, Line, Told}
 
 -- a judgment that has the line of this number and head

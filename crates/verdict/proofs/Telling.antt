@@ -14,8 +14,8 @@ use Rattle.group.proofs.InRange.{of-node}
 use Rattle.group.proofs.Refusals.{numbered}
 use Rattle.heads.specs.declared.Head.{Head}
 use Rattle.heads.specs.Kind1.{kind1Total}
-use Rattle.share.specs.declared.Judgment.{Judgment}
-use Rattle.share.specs.Calls.{judgmentNumber, headOf, noHead, Judges}
+use Rattle.judging.specs.declared.Judgment.{Judgment}
+use Rattle.judging.specs.Judging.{judgmentNumber, headOf, noHead, Judges}
 use Rattle.text.specs.Text.{Put}
 use Rattle.verdict.specs.Line.{completeLine, refusedLine, lineFor, Line, Told}
 

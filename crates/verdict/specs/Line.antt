@@ -8,7 +8,7 @@ use lib.ListN.{length, drop}
 use Rattle.group.specs.declared.Group.{Group}
 use Rattle.lengths.specs.Lengths.{nodeLetters}
 use Rattle.heads.specs.declared.Head.{Head}
-use Rattle.share.specs.Calls.{Judges}
+use Rattle.judging.specs.Judging.{Judges}
 use Rattle.text.specs.Text.{numbered}
 
 -- "complete "

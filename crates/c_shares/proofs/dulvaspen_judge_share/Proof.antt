@@ -1,7 +1,7 @@
 -- `dulvaspen_judge_share` meets its contract: 7 and 8 are decided before 6.
 use mathlib.Core.Path.{sym, subst}
 use Rattle.c_shares.specs.Shares.{JudgesShare}
-use Rattle.share.proofs.Verdicts.{found-share}
+use Rattle.judging.proofs.Verdicts.{found-share}
 use Rattle.c_shares.proofs.Judged.{found-refusal}
 use borrow.Author.Needs.{needs}
 use Rattle.c_shares.proofs.dulvaspen_judge_share.Statement.{statement}

@@ -1,5 +1,6 @@
 -- `share::read` meets its contract: what judging refuses is refused, whatever the buffer, and a share is read.
-use Rattle.share.proofs.Verdicts.{found-share, found-refused}
+use Rattle.share.proofs.Verdicts.{found-refused}
+use Rattle.judging.proofs.Verdicts.{found-share}
 use borrow.Author.Needs.{needs}
 use Rattle.share.proofs.read.Statement.{statement}
 use Rattle.share.proofs.read.Tie as tie

@@ -1,11 +1,11 @@
--- `share::judge` meets its contract: where the reader's loops stop tells what the bytes are.
+-- `judging::judge` meets its contract: where the reader's loops stop tells what the bytes are.
 use mathlib.Core.Path.{refl}
 use native.Mathlib.Omega.{arith}
 use Rattle.heads.proofs.Kind1Laws.{total-small}
-use Rattle.share.proofs.Verdicts.{judges}
+use Rattle.judging.proofs.Verdicts.{judges}
 use borrow.Author.Needs.{needs}
-use Rattle.share.proofs.judge.Statement.{statement}
-use Rattle.share.proofs.judge.Tie as tie
+use Rattle.judging.proofs.judge.Statement.{statement}
+use Rattle.judging.proofs.judge.Tie as tie
 
 head-in-requires : tie.Need-head-in-requires
 head-in-requires c κs = search needs

@@ -1,4 +1,4 @@
--- `searching::first_wrong` meets its contract: every byte passed stands, looked at or stepped over, and the byte at which the loops are
+-- `search::first_wrong` meets its contract: every byte passed stands, looked at or stepped over, and the byte at which the loops are
 -- left by their label doesn't, since the offset in its record tells its test.
 use mathlib.Core.Path.{_≡_, sym, ap, ap₂, _∙_}
 use mathlib.Core.Bool.{true}
@@ -21,9 +21,9 @@ use Rattle.heads.specs.declared.Head.{Head}
 use Rattle.heads.specs.Kind1.{kind1Tests}
 use Rattle.heads.specs.Heads.{heads}
 use Rattle.heads.proofs.Kind1Laws.{one-kind, total-small}
-use Rattle.searching.proofs.Walk.{FrontFits, BetweenRecords, InRecord, size-at-most, outset, enter, stride, at-block, pass, offset-small}
-use Rattle.searching.proofs.first_wrong.Statement.{statement}
-use Rattle.searching.proofs.first_wrong.Tie as tie
+use Rattle.judging.proofs.Walk.{FrontFits, BetweenRecords, InRecord, size-at-most, outset, enter, stride, at-block, pass, offset-small}
+use Rattle.judging.proofs.search.first_wrong.Statement.{statement}
+use Rattle.judging.proofs.search.first_wrong.Tie as tie
 
 -- every byte so far stands
 abbrev SoFar : List ℕ → ℕ → Type 0

@@ -3,8 +3,8 @@ use mathlib.Core.Path.{sym, _∙_}
 use Rattle.records.specs.Steps.Places.{standsIn}
 use Rattle.records.proofs.Places.{stands-past-head}
 use borrow.Author.Needs.{needs}
-use Rattle.searching.proofs.stands_in.Statement.{statement}
-use Rattle.searching.proofs.stands_in.Tie as tie
+use Rattle.judging.proofs.search.stands_in.Statement.{statement}
+use Rattle.judging.proofs.search.stands_in.Tie as tie
 
 head-stands-requires : tie.Need-head-stands-requires
 head-stands-requires c κs = search needs

@@ -1,9 +1,9 @@
--- `reading::judged` meets its contract: the tests are the definition's own.
+-- `judged` meets its contract: the tests are the definition's own.
 use mathlib.Core.Path.{sym, _∙_}
 use borrow.Author.Tests.{lt-ltb, le-ltb, eq-eqb, ne-eqb}
 use borrow.Author.Needs.{needs}
-use Rattle.share.proofs.reading.judged.Statement.{statement}
-use Rattle.share.proofs.reading.judged.Tie as tie
+use Rattle.judging.proofs.judged.Statement.{statement}
+use Rattle.judging.proofs.judged.Tie as tie
 
 returns : tie.Need-returns
 returns c = simp (lt-ltb _ _ (c .if1 .taken))

@@ -11,7 +11,7 @@ ghost use Rattle.records.specs.Steps.Places.{standsIn};
 ghost use Rattle.layout.specs.Layout.{sizeIn};
 ghost use Rattle.heads.specs.Kind1.{kind1Tests};
 ghost use Rattle.heads.specs.Heads.{heads};
-ghost use Rattle.searching.specs.Steps.Search.{Stops};
+ghost use Rattle.judging.specs.Steps.Search.{Stops};
 
 // A byte can stand at this offset of this record.
 fn stands_in(head: Head, letters: usize, nth: usize, offset: usize, byte: u8) -> bool

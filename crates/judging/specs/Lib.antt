@@ -1,0 +1,3 @@
+-- What bytes are judged to be.
+pub mod Judging
+pub mod Steps

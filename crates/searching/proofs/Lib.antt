@@ -1,2 +1,0 @@
--- Where the search stands between two bytes.
-pub mod Walk

@@ -1,2 +1,0 @@
--- The search for the first wrong byte.
-pub mod Steps

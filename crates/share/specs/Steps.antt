@@ -1,2 +1,0 @@
--- What the code goes by between two statements: no reader has to believe these.
-pub mod Reading
