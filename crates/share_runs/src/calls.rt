@@ -1,4 +1,5 @@
 // An operation for each call.
+use reading::Line;
 use share::Judgment;
 
 // A judgment: its number in the table of document 01 (docs/SCHEME.md, 11), 0 for a share, and the share's head.
@@ -50,34 +51,37 @@ fn sweep(share: &mut [u8], at: usize) {
 }
 
 // The calls that are handed a group's numbers, [n,k,d] and L, and a node: 21 writes a share, with a batch number; 22 tells how long it is.
-fn written(found: &[usize; 32], from: &[u8], into: &mut [u8]) {
-    let g = group::of(found[5], found[6], found[7], found[8]);
-    let batch = (found[10] % 4294967296) as u32;
-    if found[0] == 21 {
-        script::answer(share::write(g, found[9], batch, from, into));
+fn written(line: Line, from: &[u8], into: &mut [u8]) {
+    let g = line.group;
+    if line.operation == 21 {
+        let batch = (line.second % 4294967296) as u32;
+        script::answer(share::write(g, line.first, batch, from, into));
     } else {
-        script::answer(share::share_bytes(g, found[9]));
+        script::answer(share::share_bytes(g, line.first));
     }
 }
 
 // Those that are handed bytes: 23 judges, 24 reads, and 25 judges what is in B with every byte at an index.
-fn read(found: &[usize; 32], from: &[u8], into: &mut [u8]) {
-    let operation = found[0];
+fn read(line: Line, from: &[u8], into: &mut [u8]) {
+    let operation = line.operation;
     match operation {
         23 => judgment(share::judge(from)),
         24 => judgment(share::read(from, into)),
-        _ => sweep(into, found[5]),
+        _ => sweep(into, line.own),
     }
 }
 
-// The call that a line names, on the slices that it names.
-pub fn call(found: &[usize; 32], a: &[u8], b: &mut [u8]) {
-    let from = lines::part(a, found[1], found[2]);
-    let into = lines::part_mut(b, found[3], found[4]);
-    if found[0] < 23 {
-        written(found, from, into);
+// The call that a line names, on the slices that it names; a line of the memories names none.
+pub fn call(line: Line, a: &[u8], b: &mut [u8]) {
+    if line.operation < 10 {
+        return;
+    }
+    let from = lines::part(a, line.a, line.a_length);
+    let into = lines::part_mut(b, line.b, line.b_length);
+    if line.operation < 23 {
+        written(line, from, into);
     } else {
-        read(found, from, into);
+        read(line, from, into);
     }
     script::sum(into);
 }

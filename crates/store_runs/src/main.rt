@@ -4,22 +4,14 @@ mod calls;
 
 use libc::STDIN_FILENO;
 
-// One line: what isn't the memories' own is a call.
-fn line(words: &[u8], a: &mut [u8], b: &mut [u8]) {
-    let mut found = [0usize; 32];
-    let count = script::begin(words, &mut found, a, b);
-    if 0 < count {
-        calls::call(&found, count, a, b);
-    }
-}
-
 // Line by line.
 fn run(text: &[u8], a: &mut [u8], b: &mut [u8]) {
+    let mut found = [0usize; 32];
     let mut at = 0;
     while at < text.len() {
-        let end = script::line_end(text, at);
-        line(&text[at..end], a, b);
-        at = end + 1;
+        let line = script::next(text, at, &mut found, a, b);
+        calls::call(line, &found, a, b);
+        at = line.next;
     }
 }
 

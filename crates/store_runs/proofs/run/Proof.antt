@@ -3,48 +3,35 @@ use mathlib.Core.Path.{_≡_}
 use Prim.Native.Nat.{_+_, _-_, _≤_}
 use lib.ListN.{length}
 use borrow.Author.Needs.{needs}
-use native.Mathlib.Omega.{arith}
 use Rattle.store_runs.proofs.run.Statement.{statement}
 use Rattle.store_runs.proofs.run.Tie as tie
 
 abbrev Inv-loop : tie.InvT-loop
-Inv-loop text a₀ b₀ at₀ a b at = (at ≤ length text + 1) × (length a ≡ length a₀) × (length b ≡ length b₀)
+Inv-loop text a₀ b₀ found₀ at₀ a b found at = (at ≤ length text + 1) × (length a ≡ length a₀) × (length b ≡ length b₀)
 
 abbrev μ-loop : tie.MeasureT-loop
-μ-loop text a₀ b₀ at₀ a b at = length text + 1 - at
+μ-loop text a₀ b₀ found₀ at₀ a b found at = length text + 1 - at
 
 loop-holds : tie.Need-loop-holds Inv-loop μ-loop
-loop-holds c = omega arith
+loop-holds c = search needs
 
-line-end-requires : tie.Need-line-end-requires Inv-loop μ-loop
-line-end-requires c κs = omega arith
+next-requires : tie.Need-next-requires Inv-loop μ-loop
+next-requires c κs = search needs
 
-sub-line : tie.Need-sub-line Inv-loop μ-loop
-sub-line c = omega arith
-
-part-line-start : tie.Need-part-line-start Inv-loop μ-loop
-part-line-start c = omega arith
-
-part-line-end : tie.Need-part-line-end Inv-loop μ-loop
-part-line-end c = omega arith
-
-line-requires : tie.Need-line-requires Inv-loop μ-loop
-line-requires c κs = search needs
-
-add-at : tie.Need-add-at Inv-loop μ-loop
-add-at c = omega arith
+call-requires : tie.Need-call-requires Inv-loop μ-loop
+call-requires c κs = search needs
 
 loop-less : tie.Need-loop-less Inv-loop μ-loop
-loop-less c = omega arith
+loop-less c = search needs
 
 loop-again : tie.Need-loop-again Inv-loop μ-loop
-loop-again c = omega arith
+loop-again c = search needs
 
 same-length : tie.Need-same-length Inv-loop μ-loop
-same-length c = omega arith
+same-length c = search needs
 
 same-length-2 : tie.Need-same-length-2 Inv-loop μ-loop
-same-length-2 c = omega arith
+same-length-2 c = search needs
 
 returns : tie.Need-returns Inv-loop μ-loop
 returns c = search needs
@@ -56,12 +43,8 @@ run-spec =
     Inv-loop
     μ-loop
     loop-holds
-    line-end-requires
-    sub-line
-    part-line-start
-    part-line-end
-    line-requires
-    add-at
+    next-requires
+    call-requires
     loop-less
     loop-again
     same-length
