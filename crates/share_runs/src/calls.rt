@@ -18,24 +18,19 @@ fn judgment(judgment: Judgment) {
     }
 }
 
-// The number of what judging bytes finds, as a digit.
-fn digit(bytes: &[u8]) -> u8 {
-    match share::judge(bytes) {
-        Judgment::Complete(_) => b'0',
-        Judgment::Refused(refusal) => (48 + group::refusal_number(refusal) % 10) as u8,
-    }
-}
-
-// Judges a share with another byte at an index, and puts its own back.
+// Judges a share with another byte at an index, and puts its own back. The answer is the number of what is found, as a digit.
 fn judged_with(share: &mut [u8], at: usize, byte: u8) -> u8 {
     if share.len() <= at {
         return b'-';
     }
     let own = share[at];
     share[at] = byte;
-    let found = digit(share);
+    let judgment = share::judge(share);
     share[at] = own;
-    found
+    match judgment {
+        Judgment::Complete(_) => b'0',
+        Judgment::Refused(refusal) => (48 + group::refusal_number(refusal) % 10) as u8,
+    }
 }
 
 // A digit for each of the 256 bytes that could stand at an index.
@@ -50,21 +45,16 @@ fn sweep(share: &mut [u8], at: usize) {
     lines::say(&digits);
 }
 
-// The calls that are handed a group's numbers, [n,k,d] and L, and a node: 21 writes a share, with a batch number; 22 tells how long it is.
-fn written(line: Line, from: &[u8], into: &mut [u8]) {
-    let g = line.group;
-    if line.operation == 21 {
-        let batch = (line.second % 4294967296) as u32;
-        script::answer(share::write(g, line.first, batch, from, into));
-    } else {
-        script::answer(share::share_bytes(g, line.first));
-    }
-}
-
-// Those that are handed bytes: 23 judges, 24 reads, and 25 judges what is in B with every byte at an index.
-fn read(line: Line, from: &[u8], into: &mut [u8]) {
+// 21 writes a share with a batch number, and 22 tells how long it is: they are handed a group and a node. 23 judges, 24 reads, and 25 judges
+// what is in B with every byte at an index.
+fn done(line: Line, from: &[u8], into: &mut [u8]) {
     let operation = line.operation;
     match operation {
+        21 => {
+            let batch = (line.second % 4294967296) as u32;
+            script::answer(share::write(line.group, line.first, batch, from, into));
+        }
+        22 => script::answer(share::share_bytes(line.group, line.first)),
         23 => judgment(share::judge(from)),
         24 => judgment(share::read(from, into)),
         _ => sweep(into, line.own),
@@ -78,10 +68,6 @@ pub fn call(line: Line, a: &[u8], b: &mut [u8]) {
     }
     let from = lines::part(a, line.a, line.a_length);
     let into = lines::part_mut(b, line.b, line.b_length);
-    if line.operation < 23 {
-        written(line, from, into);
-    } else {
-        read(line, from, into);
-    }
+    done(line, from, into);
     script::sum(into);
 }

@@ -4,21 +4,18 @@ mod calls;
 
 use libc::STDIN_FILENO;
 
-// Line by line.
-fn run(text: &[u8], a: &mut [u8], b: &mut [u8]) {
-    let mut found = [0usize; 32];
-    let mut at = 0;
-    while at < text.len() {
-        let line = script::next(text, at, &mut found, a, b);
-        calls::call(line, a, b);
-        at = line.next;
-    }
-}
-
+// Line by line. `found` is the room for the numbers of a line.
 fn main() {
-    let mut text = lines::room();
+    let mut room = lines::room();
     let mut a = lines::room();
     let mut b = lines::room();
-    let count = io::read_full(STDIN_FILENO, &mut text);
-    run(&text[..count], &mut a, &mut b);
+    let mut found = [0usize; 32];
+    let count = io::read_full(STDIN_FILENO, &mut room);
+    let text = &room[..count];
+    let mut at = 0;
+    while at < text.len() {
+        let line = script::next(text, at, &mut found, &mut a, &mut b);
+        calls::call(line, &a, &mut b);
+        at = line.next;
+    }
 }

@@ -10,42 +10,20 @@ fn piece(line: Line, from: &[u8], into: &mut [u8]) -> Answer {
     store::pieces::piece_start(line.group, line.first, line.second, line.third, from.len())
 }
 
-// Recovery from the nodes that are the rest of the line.
-fn recover(line: Line, found: &[usize; 32], into: &mut [u8]) -> Answer {
-    store::recovery::recover(line.group, reading::rest(found, 9, line.count), into)
-}
-
-// Repair of a node by the helpers that are the rest of the line.
-fn repair(line: Line, found: &[usize; 32], into: &mut [u8]) -> Answer {
-    store::repairing::repair(
-        line.group,
-        line.first,
-        reading::rest(found, 10, line.count),
-        into,
-    )
-}
-
-// The lengths and places.
-fn size(line: Line) -> Answer {
-    let operation = line.operation;
-    match operation {
-        16 => lengths::file_letters(line.group),
-        17 => lengths::packet_letters(line.group, line.first),
-        18 => lengths::repair_letters(line.group, line.first),
-        _ => store::pieces::entry(line.group, line.first, line.second),
-    }
-}
-
-// 11 encode, 12 piece, 13 help, 14 recover, 15 repair; 16 to 19 lengths and places.
+// 11 encode, 12 piece, 13 help; 14 recover and 15 repair, with ids that are the rest of the line; 16 to 19 lengths and places.
 fn answered(line: Line, found: &[usize; 32], from: &[u8], into: &mut [u8]) -> Answer {
     let operation = line.operation;
+    let g = line.group;
     match operation {
-        11 => store::encoding::encode(line.group, line.first, from, into),
+        11 => store::encoding::encode(g, line.first, from, into),
         12 => piece(line, from, into),
-        13 => store::helping::help(line.group, line.first, line.second, line.third, from, into),
-        14 => recover(line, found, into),
-        15 => repair(line, found, into),
-        _ => size(line),
+        13 => store::helping::help(g, line.first, line.second, line.third, from, into),
+        14 => store::recovery::recover(g, reading::rest(found, 9, line.count), into),
+        15 => store::repairing::repair(g, line.first, reading::rest(found, 10, line.count), into),
+        16 => lengths::file_letters(g),
+        17 => lengths::packet_letters(g, line.first),
+        18 => lengths::repair_letters(g, line.first),
+        _ => store::pieces::entry(g, line.first, line.second),
     }
 }
 
