@@ -1,4 +1,5 @@
 // An operation for each call.
+use script_line::Line;
 use share::Judgment;
 
 // A judgment: its number in the table of document 01 (docs/SCHEME.md, 11), 0 for a share, and the share's head.
@@ -17,24 +18,19 @@ fn judgment(judgment: Judgment) {
     }
 }
 
-// The number of what judging bytes finds, as a digit.
-fn digit(bytes: &[u8]) -> u8 {
-    match share::judge(bytes) {
-        Judgment::Complete(_) => b'0',
-        Judgment::Refused(refusal) => (48 + group::refusal_number(refusal) % 10) as u8,
-    }
-}
-
-// Judges a share with another byte at an index, and puts its own back.
+// Judges a share with another byte at an index, and puts its own back. The answer is the number of what is found, as a digit.
 fn judged_with(share: &mut [u8], at: usize, byte: u8) -> u8 {
     if share.len() <= at {
         return b'-';
     }
     let own = share[at];
     share[at] = byte;
-    let found = digit(share);
+    let judgment = share::judge(share);
     share[at] = own;
-    found
+    match judgment {
+        Judgment::Complete(_) => b'0',
+        Judgment::Refused(refusal) => (48 + group::refusal_number(refusal) % 10) as u8,
+    }
 }
 
 // A digit for each of the 256 bytes that could stand at an index.
@@ -49,35 +45,29 @@ fn sweep(share: &mut [u8], at: usize) {
     lines::say(&digits);
 }
 
-// The calls that are handed a group's numbers, [n,k,d] and L, and a node: 21 writes a share, with a batch number; 22 tells how long it is.
-fn written(found: &[usize; 32], from: &[u8], into: &mut [u8]) {
-    let g = group::of(found[5], found[6], found[7], found[8]);
-    let batch = (found[10] % 4294967296) as u32;
-    if found[0] == 21 {
-        script::answer(share::write(g, found[9], batch, from, into));
-    } else {
-        script::answer(share::share_bytes(g, found[9]));
-    }
-}
-
-// Those that are handed bytes: 23 judges, 24 reads, and 25 judges what is in B with every byte at an index.
-fn read(found: &[usize; 32], from: &[u8], into: &mut [u8]) {
-    let operation = found[0];
+// 21 writes a share with a batch number, and 22 tells how long it is: they are handed a group and a node. 23 judges, 24 reads, and 25 judges
+// what is in B with every byte at an index.
+fn done(line: Line, from: &[u8], into: &mut [u8]) {
+    let operation = line.operation;
     match operation {
+        21 => {
+            let batch = (line.second % 4294967296) as u32;
+            script::answer(share::write(line.group, line.first, batch, from, into));
+        }
+        22 => script::answer(share::share_bytes(line.group, line.first)),
         23 => judgment(share::judge(from)),
         24 => judgment(share::read(from, into)),
-        _ => sweep(into, found[5]),
+        _ => sweep(into, line.own),
     }
 }
 
-// The call that a line names, on the slices that it names.
-pub fn call(found: &[usize; 32], a: &[u8], b: &mut [u8]) {
-    let from = lines::part(a, found[1], found[2]);
-    let into = lines::part_mut(b, found[3], found[4]);
-    if found[0] < 23 {
-        written(found, from, into);
-    } else {
-        read(found, from, into);
+// The call that a line names, on the slices that it names; a line of the memories names none.
+pub fn call(line: Line, a: &[u8], b: &mut [u8]) {
+    if line.operation < 10 {
+        return;
     }
+    let from = lines::part(a, line.a, line.a_length);
+    let into = lines::part_mut(b, line.b, line.b_length);
+    done(line, from, into);
     script::sum(into);
 }
