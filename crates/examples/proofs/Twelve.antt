@@ -20,7 +20,7 @@ use Rattle.layout.proofs.Judgments.{cut-is-beginning, share-then-more, nothing-
 use Rattle.heads.specs.Heads.{heads}
 use Rattle.share.specs.Calls.{noHead, headFor, Judges}
 use Rattle.heads.proofs.Kind1Laws.{lawful, total-of}
-use Rattle.desk.specs.Examples.{AllHold, one, stored, twelve}
+use Rattle.examples.specs.Examples.{AllHold, one, stored, twelve}
 
 -- P9's letters, which are bytes
 abbrev letters : List ℕ
