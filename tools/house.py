@@ -8,7 +8,7 @@ Green boxes are the product, blue ones its programs, grey ones its tests.
 
 
 PROGRAMS = {"judge", "tour"}
-TESTS = {"desk", "lines", "script_line", "script", "store_runs", "share_runs", "verdict_runs"}
+TESTS = {"examples", "desk", "marks", "disks", "lines", "script_line", "script", "store_runs", "share_runs", "verdict_runs"}
 WIDTH, HEIGHT, GAP, RISE = 104, 30, 22, 74
 
 

@@ -180,6 +180,10 @@ def desk():
     SCRIPT.keep((0, 82), (0, 82))
     read((0, 81), (100, 2))
     SCRIPT.show((100, 2))
+    SCRIPT.heading("It read, less than it and more; the bytes are judged before the room for the letters")
+    for room in (2, 3):
+        for count in (81, 80, 82):
+            read((0, count), (100, room))
     SCRIPT.heading("Its first bytes, from none to all, and one more")
     for count in range(83):
         judged((0, count))

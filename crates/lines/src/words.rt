@@ -6,33 +6,21 @@ pub fn say(words: &[u8]) {
     io::write_all(STDOUT_FILENO, words);
 }
 
+// A number.
+pub fn decimal(n: usize) {
+    io::print_decimal(STDOUT_FILENO, n as u64);
+}
+
 // Some words and a number after them.
 pub fn number(words: &[u8], n: usize) {
     say(words);
-    io::print_decimal(STDOUT_FILENO, n as u64);
+    decimal(n);
 }
 
 // A letter as two hexadecimal digits.
 fn letter(letter: u8) {
     say(b" ");
     io::print_hex(STDOUT_FILENO, letter as u64, 2);
-}
-
-// One more, of a count that is small.
-fn one_more(count: usize) -> usize {
-    if count < 1000 { count + 1 } else { count }
-}
-
-// Ends a line that says what came out of an example: as it is where that is what must come out, and marked where it isn't. The answer
-// is how many examples agree, this one included, after `count` before it.
-pub fn agreed(count: usize, good: bool) -> usize {
-    if good {
-        say(b"\n");
-        one_more(count)
-    } else {
-        say(b" which is NOT what must come out\n");
-        count
-    }
 }
 
 // Some words, and the letters after them.
@@ -69,10 +57,10 @@ pub fn value(answer: Answer) -> usize {
     }
 }
 
-// Some words and an answer's value after them, or that it is refused, and by which number.
-pub fn answer(words: &[u8], answer: Answer) {
+// An answer's value, or its refusal's number.
+pub fn outcome(answer: Answer) -> usize {
     match answer {
-        Answer::Value(value) => number(words, value),
-        Answer::Refused(refusal) => number(b" refused ", group::refusal_number(refusal)),
+        Answer::Value(value) => value,
+        Answer::Refused(refusal) => group::refusal_number(refusal),
     }
 }

@@ -20,9 +20,9 @@ fn longer(share: &[u8]) {
 // A share of 81 bytes, one less, one more and none.
 fn lengths(share: &[u8]) {
     show(b"P9: ", share);
-    show(b"P10: ", lines::first(share, 80));
+    show(b"P10: ", lines::part(share, 0, 80));
     longer(share);
-    show(b"P12: ", lines::first(share, 0));
+    show(b"P12: ", lines::part(share, 0, 0));
 }
 
 // P9 to P12: [3,2,2], L = 1, node 1, batch 7.
@@ -37,7 +37,7 @@ fn examples() {
 fn write(node: usize, batch: u32, packets: &[u8], letters: usize, room: &mut [u8], bytes: usize) {
     let g = group::of(16, 15, 15, 4096);
     let share = lines::part_mut(room, 0, bytes);
-    share::write(g, node, batch, lines::first(packets, letters), share);
+    share::write(g, node, batch, lines::part(packets, 0, letters), share);
 }
 
 // Node 1's share, with the last batch number.
@@ -47,23 +47,23 @@ fn complete(share: &[u8]) {
 
 // Node 16's share, and its beginnings.
 fn too_long(share: &[u8]) {
-    show(b"65,536 bytes of a share: ", lines::first(share, 65536));
-    show(b"65,537 bytes of it: ", lines::first(share, 65537));
+    show(b"65,536 bytes of a share: ", lines::part(share, 0, 65536));
+    show(b"65,537 bytes of it: ", lines::part(share, 0, 65537));
     show(b"all of it, 65,666 bytes: ", share);
 }
 
 fn malformed(zeros: &[u8]) {
-    show(b"a zero: ", lines::first(zeros, 1));
-    show(b"65,536 zeros: ", lines::first(zeros, 65536));
-    show(b"65,537 zeros: ", lines::first(zeros, 65537));
+    show(b"a zero: ", lines::part(zeros, 0, 1));
+    show(b"65,536 zeros: ", lines::part(zeros, 0, 65536));
+    show(b"65,537 zeros: ", lines::part(zeros, 0, 65537));
 }
 
 // The large shares, one after the other.
 fn large(packets: &[u8], room: &mut [u8]) {
     write(1, 4294967295, packets, 61440, room, 62416);
-    complete(lines::first(room, 62416));
+    complete(lines::part(room, 0, 62416));
     write(16, 0, packets, 64590, room, 65666);
-    too_long(lines::first(room, 65666));
+    too_long(lines::part(room, 0, 65666));
 }
 
 fn main() {

@@ -21,7 +21,7 @@ use Rattle.heads.specs.Heads.{heads}
 use Rattle.share.specs.Calls.{headFor}
 use Rattle.judging.specs.Judging.{noHead, Judges}
 use Rattle.heads.proofs.Kind1Laws.{lawful, total-of}
-use Rattle.desk.specs.Examples.{AllHold, one, stored, twelve}
+use Rattle.examples.specs.Examples.{AllHold, one, stored, twelve}
 
 -- P9's letters, which are bytes
 abbrev letters : List ℕ
