@@ -46,8 +46,8 @@ END
     desk) cat <<END
 ${called}desk
 
-Runs the worked examples P1 to P12, the limits and the refusals through the library's calls, compares each with what must
-come out and says in the last line how many agreed. Exit status: 0 all, 1 not all, 2 no proved program to run.
+Runs the worked examples P1 to P12 through the library's calls, compares each with what must come out and says in the last
+line how many lines of them agreed. Exit status: 0 all, 1 not all, 2 no proved program to run.
 
   ${called}desk
 END
@@ -127,7 +127,7 @@ run_program() {
     case $name in
     judge) judge_all "$@" ;;
     tour) run_and_look tour 'It is the batch, letter for letter.' ;;
-    desk) run_and_look desk 'examples agree: all' ;;
+    desk) run_and_look desk 'lines of the examples agree: all' ;;
     *) start "$name" "$@" ;;
     esac
 }
