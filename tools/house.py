@@ -1,15 +1,14 @@
 #!/usr/bin/env python3
-"""The picture of the crates, from crates.txt: a box for each, above those that it stands on, and an arrow to each that no other of them reaches already.
+"""The picture of the crates, from crates.txt: a box for each, above those that it stands on, with an arrow to each that no other of them reaches already.
 
     python3 tools/house.py > docs/house.svg
 
-Green boxes are the product, blue ones its programs, grey ones its tests.
+Green boxes are the library, blue ones its programs. The tests, grey, stand in a row of their own above the house: under each is what it stands on.
 """
-
 
 PROGRAMS = {"judge", "tour"}
 TESTS = {"examples", "desk", "marks", "disks", "lines", "script_line", "script", "store_runs", "share_runs", "verdict_runs"}
-WIDTH, HEIGHT, GAP, RISE = 104, 30, 22, 74
+WIDTH, HEIGHT, GAP, RISE, LANE = 92, 28, 16, 70, 14
 
 
 def crates():
@@ -23,8 +22,7 @@ def crates():
 
 
 def reached(deps, name):
-    seen = set()
-    todo = list(deps[name])
+    seen, todo = set(), list(deps[name])
     while todo:
         d = todo.pop()
         if d not in seen:
@@ -33,59 +31,116 @@ def reached(deps, name):
     return seen
 
 
-def layers(deps):
-    level = {}
-
-    def of(name):
-        if name not in level:
-            level[name] = 1 + max((of(d) for d in deps[name]), default=-1)
-        return level[name]
-
-    for name in deps:
-        of(name)
-    rows = [[n for n in deps if level[n] == i] for i in range(max(level.values()) + 1)]
-    return rows
-
-
 def arrows(deps):
     """Each crate's dependencies that are not reached through another of them."""
     return {n: [d for d in ds if not any(d in reached(deps, e) for e in ds if e != d)] for n, ds in deps.items()}
 
 
-def ordered(rows, lines):
-    """Each row by where the boxes below it stand, so that arrows cross little."""
-    place = {n: i - len(rows[0]) / 2 for i, n in enumerate(rows[0])}
-    for row in rows[1:]:
-        want = {n: sum(place[d] for d in lines[n]) / len(lines[n]) if lines[n] else 0 for n in row}
-        row.sort(key=lambda n: want[n])
-        for i, n in enumerate(row):
-            place[n] = i - len(row) / 2
-    return rows
+def levels(deps, lines):
+    """One more than the highest below; a crate that stands on nothing is drawn right below the first that stands on it."""
+    level = {}
+
+    def of(n):
+        if n not in level:
+            level[n] = 1 + max((of(d) for d in deps[n]), default=-1)
+        return level[n]
+
+    for n in deps:
+        of(n)
+    for n in deps:
+        above = [level[u] for u in deps if n in lines[u]]
+        if not deps[n] and above:
+            level[n] = min(above) - 1
+    return level
+
+
+def rows_of(level, lines):
+    """The boxes of each level, and between two levels that aren't neighbours a bend (a pair of numbers) for the arrow on each level that it passes."""
+    rows = [[n for n in level if level[n] == i] for i in range(max(level.values()) + 1)]
+    ways = []
+    for n, ds in lines.items():
+        for d in ds:
+            bends = [(len(ways), i) for i in range(level[n] - 1, level[d], -1)]
+            for bend in bends:
+                rows[bend[1]].append(bend)
+            ways.append([n] + bends + [d])
+    return rows, ways
+
+
+def centred(row):
+    """Where the middle of each box or bend of a row stands, the row's own middle being 0."""
+    sizes = [LANE if isinstance(n, tuple) else WIDTH + GAP for n in row]
+    x, place = -sum(sizes) / 2, {}
+    for n, size in zip(row, sizes):
+        place[n] = x + size / 2
+        x += size
+    return place
+
+
+def ordered(rows, ways):
+    """Each row by where its neighbours stand, up and down several times, so that arrows cross little. The best order seen is kept."""
+    near = {}
+    for way in ways:
+        for a, b in zip(way, way[1:]):
+            near.setdefault(a, []).append(b)
+            near.setdefault(b, []).append(a)
+
+    def places():
+        return {n: x for row in rows for n, x in centred(row).items()}
+
+    def length():
+        at = places()
+        return sum(abs(at[a] - at[b]) for way in ways for a, b in zip(way, way[1:]))
+
+    best, kept = length(), [list(row) for row in rows]
+    for turn in range(40):
+        for row in rows if turn % 2 else reversed(rows):
+            at = places()
+            row.sort(key=lambda n: sum(at[m] for m in near.get(n, [n])) / len(near.get(n, [n])))
+        if length() < best:
+            best, kept = length(), [list(row) for row in rows]
+    return kept
+
+
+def box(name, x, y, fill):
+    print(f'<rect x="{x - WIDTH / 2:.0f}" y="{y:.0f}" width="{WIDTH}" height="{HEIGHT}" rx="5" fill="{fill}" stroke="#777"/>')
+    print(f'<text x="{x:.0f}" y="{y + 19:.0f}" text-anchor="middle">{name}</text>')
+
+
+def tests(deps, lines, wide, top):
+    """The row of the tests, and under each box what it stands on."""
+    step = (wide - GAP) / len(TESTS)
+    for i, n in enumerate(d for d in deps if d in TESTS):
+        x = GAP / 2 + step * (i + 0.5)
+        box(n, x, top, "#eeeeee")
+        for j, d in enumerate(lines[n]):
+            print(f'<text x="{x:.0f}" y="{top + HEIGHT + 14 + 13 * j:.0f}" text-anchor="middle" font-size="11" fill="#666">{d}</text>')
 
 
 def main():
     deps = crates()
     lines = arrows(deps)
-    rows = ordered(layers(deps), lines)
-    wide = max(len(r) for r in rows) * (WIDTH + GAP) + GAP
-    tall = len(rows) * RISE + GAP
-    at = {}
-    for i, row in enumerate(rows):
-        left = (wide - len(row) * (WIDTH + GAP) + GAP) / 2
-        for j, n in enumerate(row):
-            at[n] = (left + j * (WIDTH + GAP), tall - (i + 1) * RISE)
+    house = {n: ds for n, ds in deps.items() if n not in TESTS}
+    own = arrows({n: [d for d in ds if d in house] for n, ds in house.items()})
+    rows, ways = rows_of(levels({n: [d for d in ds if d in house] for n, ds in house.items()}, own), own)
+    rows = ordered(rows, ways)
+    strip = HEIGHT + 20 + 13 * max(len(lines[n]) for n in TESTS)
+    across = {i: centred(row) for i, row in enumerate(rows)}
+    wide = max(max((max(r.values()) - min(r.values()) + WIDTH for r in across.values())) + 2 * GAP, len(TESTS) * (WIDTH + 8) + GAP)
+    tall = strip + len(rows) * RISE + GAP
+    at = {n: (x + wide / 2, tall - (i + 1) * RISE) for i, row in across.items() for n, x in row.items()}
     print(f'<svg xmlns="http://www.w3.org/2000/svg" width="{wide:.0f}" height="{tall}" font-family="sans-serif" font-size="13">')
     print('<defs><marker id="a" markerWidth="8" markerHeight="8" refX="7" refY="4" orient="auto"><path d="M0,0 L8,4 L0,8 z" fill="#888"/></marker></defs>')
     print(f'<rect width="{wide:.0f}" height="{tall}" fill="white"/>')
-    for n, ds in lines.items():
-        for d in ds:
-            x, y = at[n]
-            u, v = at[d]
-            print(f'<line x1="{x + WIDTH / 2:.0f}" y1="{y + HEIGHT:.0f}" x2="{u + WIDTH / 2:.0f}" y2="{v:.0f}" stroke="#aaa" marker-end="url(#a)"/>')
-    for n, (x, y) in at.items():
-        fill = "#dde8f7" if n in PROGRAMS else "#eeeeee" if n in TESTS else "#dff0d8"
-        print(f'<rect x="{x:.0f}" y="{y:.0f}" width="{WIDTH}" height="{HEIGHT}" rx="5" fill="{fill}" stroke="#777"/>')
-        print(f'<text x="{x + WIDTH / 2:.0f}" y="{y + 20:.0f}" text-anchor="middle">{n}</text>')
+    for way in ways:
+        points = [(at[way[0]][0], at[way[0]][1] + HEIGHT)]
+        for bend in way[1:-1]:
+            points += [(at[bend][0], at[bend][1]), (at[bend][0], at[bend][1] + HEIGHT)]
+        points.append(at[way[-1]])
+        print('<polyline fill="none" stroke="#999" marker-end="url(#a)" points="' + " ".join(f"{x:.0f},{y:.0f}" for x, y in points) + '"/>')
+    for n in house:
+        box(n, *at[n], "#dde8f7" if n in PROGRAMS else "#dff0d8")
+    tests(deps, lines, wide, GAP / 2)
     print("</svg>")
 
 
