@@ -131,7 +131,7 @@ def write(a, b, head):
 
 
 def told(number, head):
-    return f": {number}" if number else ": 0 of {} {} {} node {} length {} batch {}".format(*head)
+    return f": {number}" if number else ": 0 of {} {} {} {} {} {}".format(*head)
 
 
 def judged(a):

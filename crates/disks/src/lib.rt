@@ -1,10 +1,6 @@
 // Six disks in one memory, for the program `tour`: the shares of batch 7 in [6,3,4], L = 16. Node i's share starts at index 146 i; it has at most
 // 146 bytes, and a node at most 124 letters.
-mod sending;
-
 use group::Group;
-pub use sending::ask;
-pub use sending::send;
 use share::Judgment;
 
 pub fn six() -> Group {
@@ -36,16 +32,20 @@ pub fn write(node: usize, packets: &[u8], disks: &mut [u8]) {
 }
 
 // Encodes a batch for a node, and writes that.
-pub fn spread(node: usize, file: &[u8], disks: &mut [u8]) {
+fn spread_to(node: usize, file: &[u8], disks: &mut [u8]) {
     let mut packets = [0u8; 124];
     let held = lines::part_mut(&mut packets, 0, letters(node));
     store::encoding::encode(six(), node, file, held);
     write(node, held, disks);
 }
 
-// A node's disk is lost: zeros are in its place.
-pub fn lose(node: usize, disks: &mut [u8]) {
-    lines::put(disks, node % 7 * 146, &[0u8; 146]);
+// The same for all six.
+pub fn spread(file: &[u8], disks: &mut [u8]) {
+    let mut node: usize = 1;
+    while node < 7 {
+        spread_to(node, file, disks);
+        node += 1;
+    }
 }
 
 // 0 where these are the packets that a batch gives a node, and else 1.
@@ -54,4 +54,30 @@ pub fn differs(node: usize, file: &[u8], packets: &[u8]) -> usize {
     let held = lines::part_mut(&mut wanted, 0, letters(node));
     store::encoding::encode(six(), node, file, held);
     lines::differ(held, packets)
+}
+
+// Reads a node's packets into the first letters of `packets`. Of a disk that is lost nothing is read.
+pub fn read(node: usize, disks: &[u8], packets: &mut [u8]) {
+    let share = lines::part(disks, node % 7 * 146, bytes(node));
+    share::read(share, lines::part_mut(packets, 0, letters(node)));
+}
+
+// The disks 2 and 5 are lost: zeros are in their place.
+pub fn lose(disks: &mut [u8]) {
+    let zeros = [0u8; 146];
+    lines::put(disks, 2 * 146, &zeros);
+    lines::put(disks, 5 * 146, &zeros);
+}
+
+// Tells what is on the six disks once the batch, of 144 letters, has gone there; and disk 5 fills up one byte too early.
+pub fn show(text: &[u8], disks: &[u8]) {
+    marks::tell(text, 0, 144, 0, 0, 0);
+    let mut node: usize = 1;
+    while node < 7 {
+        let count = bytes(node);
+        let judged = judge(node, count, disks);
+        marks::tell(text, 1, node, letters(node), count, judged);
+        node += 1;
+    }
+    marks::tell(text, 2, judge(5, 145, disks), 0, 0, 0);
 }

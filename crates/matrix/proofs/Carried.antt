@@ -3,7 +3,7 @@
 use mathlib.Core.Path.{_≡_, sym, ap, _∙_}
 use mathlib.Core.Bool.{Bool, true, false, cond}
 use mathlib.Core.List.{List, map}
-use Prim.Native.Nat.{ℕ, _+_, _-_, _*_, min, max}
+use Prim.Native.Nat.{ℕ, _+_, _*_, min, max}
 use lib.Dec.{leb}
 use lib.ListN.{length, length-map}
 use Rattle.letters.specs.Algebra.{Adding, xors, bytes, bits}

@@ -8,4 +8,5 @@ mod telling;
 
 pub use memory::next;
 pub use telling::answer;
+pub use telling::numbers;
 pub use telling::sum;

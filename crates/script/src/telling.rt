@@ -29,3 +29,13 @@ fn told(number: usize, value: usize) {
 pub fn answer(answer: Answer) {
     told(group::answer_number(answer), lines::value(answer));
 }
+
+// Some words, and numbers after them.
+pub fn numbers(words: &[u8], numbers: &[usize]) {
+    lines::say(words);
+    let mut i = 0;
+    while i < numbers.len() {
+        lines::number(b" ", numbers[i]);
+        i += 1;
+    }
+}

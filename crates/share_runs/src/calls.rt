@@ -2,17 +2,15 @@
 use script_line::Line;
 use share::Judgment;
 
-// A judgment: its number in the table of document 01 (docs/SCHEME.md, 11), 0 for a share, and the share's head.
+// A judgment: its number in the table of document 01 (docs/SCHEME.md, 11), 0 for a share, and the share's head: n, k, d, node, L, batch.
 fn judgment(judgment: Judgment) {
     match judgment {
         Judgment::Complete(head) => {
             let g = head.group;
-            lines::number(b": 0 of ", g.n);
-            lines::number(b" ", g.k);
-            lines::number(b" ", g.d);
-            lines::number(b" node ", head.node);
-            lines::number(b" length ", g.l);
-            lines::number(b" batch ", head.batch as usize);
+            script::numbers(
+                b": 0 of",
+                &[g.n, g.k, g.d, head.node, g.l, head.batch as usize],
+            );
         }
         Judgment::Refused(refusal) => lines::number(b": ", group::refusal_number(refusal)),
     }

@@ -1,10 +1,10 @@
--- `sending::send_all` runs without a fault: the column is counted up to 5.
+-- `send_all` runs without a fault: the column is counted up to 5.
 use mathlib.Core.Path.{_≡_}
 use Prim.Native.Nat.{_-_, _≤_}
 use lib.ListN.{length}
 use borrow.Author.Needs.{needs}
-use Rattle.disks.proofs.sending.send_all.Statement.{statement}
-use Rattle.disks.proofs.sending.send_all.Tie as tie
+use Rattle.rescue.proofs.send_all.Statement.{statement}
+use Rattle.rescue.proofs.send_all.Tie as tie
 
 abbrev Inv-loop : tie.InvT-loop
 Inv-loop rank node disks buffer₀ held column₀ buffer column = (column ≤ 5) × (length buffer ≡ length buffer₀)

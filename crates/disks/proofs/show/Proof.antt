@@ -1,25 +1,20 @@
--- `spread` runs without a fault: the node is counted up to 7.
-use mathlib.Core.Path.{_≡_}
+-- `show` runs without a fault: the node is counted up to 7.
 use Prim.Native.Nat.{_-_, _≤_}
-use lib.ListN.{length}
 use borrow.Author.Needs.{needs}
-use Rattle.tour.proofs.spread.Statement.{statement}
-use Rattle.tour.proofs.spread.Tie as tie
+use Rattle.disks.proofs.show.Statement.{statement}
+use Rattle.disks.proofs.show.Tie as tie
 
 abbrev Inv-loop : tie.InvT-loop
-Inv-loop text file disks₀ node₀ disks node = (node ≤ 7) × (length disks ≡ length disks₀)
+Inv-loop text disks node₀ node = node ≤ 7
 
 abbrev μ-loop : tie.MeasureT-loop
-μ-loop text file disks₀ node₀ disks node = 7 - node
+μ-loop text disks node₀ node = 7 - node
 
 tell-requires : tie.Need-tell-requires Inv-loop μ-loop
 tell-requires c κs = search needs
 
 loop-holds : tie.Need-loop-holds Inv-loop μ-loop
 loop-holds c = search needs
-
-spread-requires : tie.Need-spread-requires Inv-loop μ-loop
-spread-requires c κs = search needs
 
 bytes-requires : tie.Need-bytes-requires Inv-loop μ-loop
 bytes-requires c κs = search needs
@@ -48,21 +43,17 @@ judge-requires-2 c κs = search needs
 tell-requires-3 : tie.Need-tell-requires-3 Inv-loop μ-loop
 tell-requires-3 c κs = search needs
 
-same-length : tie.Need-same-length Inv-loop μ-loop
-same-length c = search needs
-
 returns : tie.Need-returns Inv-loop μ-loop
 returns c = search needs
 
-pub spread-spec : {M : Type 1} → statement M
-spread-spec =
+pub show-spec : {M : Type 1} → statement M
+show-spec =
     tie.close
     (tie.spec
     Inv-loop
     μ-loop
     tell-requires
     loop-holds
-    spread-requires
     bytes-requires
     judge-requires
     letters-requires
@@ -72,5 +63,4 @@ spread-spec =
     loop-again
     judge-requires-2
     tell-requires-3
-    same-length
     returns)
