@@ -2,7 +2,7 @@
 // written. `<` stands before a letter that is handed in, `>` before one that must come out (`>` alone: a zero that isn't shown), `=` before the
 // count, the refusal or the number of bytes that must come out, `@` before an id, a rank, or a number of bytes that is handed in. Each line is run and
 // compared, and the last one says how many agree.
-mod calls;
+mod turn;
 
 // Runs the lines one after another, on one memory: what a line leaves there is still there for the next. From P8 on, L is 1.
 fn run(text: &[u8]) {
@@ -14,7 +14,7 @@ fn run(text: &[u8]) {
         marks::read(line, b'<', &mut memory);
         let before = memory;
         let made = lines::part_mut(&mut memory, 0, lines::count(line, b'>'));
-        let answer = calls::call(line, 2 - n / 9, &before, made);
+        let answer = turn::call(line, 2 - n / 9, &before, made);
         agreed = marks::compare(agreed, line, lines::outcome(answer), &memory);
         n += 1;
     }

@@ -1,6 +1,6 @@
 // Runs the store's calls as the script on standard input says, and writes each line again with what comes back. tools/store_model makes the
 // script and what must be written, from document 01 (docs/SCHEME.md) alone and by elimination.
-mod calls;
+mod turn;
 
 use libc::STDIN_FILENO;
 
@@ -15,7 +15,7 @@ fn main() {
     let mut at = 0;
     while at < text.len() {
         let line = script::next(text, at, &mut found, &mut a, &mut b);
-        calls::call(line, &found, &a, &mut b);
+        turn::call(line, &found, &a, &mut b);
         at = line.next;
     }
 }

@@ -1,4 +1,4 @@
-// An operation for each call.
+// The call of a line.
 use script_line::Line;
 use share::Judgment;
 
@@ -16,31 +16,10 @@ fn judgment(judgment: Judgment) {
     }
 }
 
-// Judges a share with another byte at an index, and puts its own back. The answer is the number of what is found, as a digit.
-fn judged_with(share: &mut [u8], at: usize, byte: u8) -> u8 {
-    if share.len() <= at {
-        return b'-';
-    }
-    let own = share[at];
-    share[at] = byte;
-    let judgment = share::judge(share);
-    share[at] = own;
-    match judgment {
-        Judgment::Complete(_) => b'0',
-        Judgment::Refused(refusal) => (48 + group::refusal_number(refusal) % 10) as u8,
-    }
-}
-
-// A digit for each of the 256 bytes that could stand at an index.
-fn sweep(share: &mut [u8], at: usize) {
-    let mut digits = [0u8; 256];
-    let mut byte: usize = 0;
-    while byte < 256 {
-        digits[byte] = judged_with(share, at, byte as u8);
-        byte += 1;
-    }
+// What a sweep found.
+fn swept(digits: &[u8]) {
     lines::say(b": ");
-    lines::say(&digits);
+    lines::say(digits);
 }
 
 // 21 writes a share with a batch number, and 22 tells how long it is: they are handed a group and a node. 23 judges, 24 reads, and 25 judges
@@ -55,7 +34,7 @@ fn done(line: Line, from: &[u8], into: &mut [u8]) {
         22 => script::answer(share::share_bytes(line.group, line.first)),
         23 => judgment(share::judge(from)),
         24 => judgment(share::read(from, into)),
-        _ => sweep(into, line.own),
+        _ => swept(&calls::sweep(into, line.own)),
     }
 }
 

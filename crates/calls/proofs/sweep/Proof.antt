@@ -1,17 +1,16 @@
--- `calls::sweep` is safe: the byte stays within the 256, and each judging keeps the length.
+-- `sweep` runs without a fault: the byte is counted up to 256, and the share keeps its length.
 use mathlib.Core.Path.{_≡_}
 use Prim.Native.Nat.{_-_, _≤_}
-use lib.ListN.{length, length-set}
+use lib.ListN.{length}
 use borrow.Author.Needs.{needs}
-use native.Mathlib.Omega.{arith}
-use Rattle.share_runs.proofs.calls.sweep.Statement.{statement}
-use Rattle.share_runs.proofs.calls.sweep.Tie as tie
+use Rattle.calls.proofs.sweep.Statement.{statement}
+use Rattle.calls.proofs.sweep.Tie as tie
 
 abbrev Inv-loop : tie.InvT-loop
-Inv-loop share₀ at digits₀ byte₀ t5 share digits byte = (byte ≤ 256) × (length share ≡ length share₀) × (length digits ≡ 256)
+Inv-loop share₀ at digits₀ byte₀ share digits byte = (byte ≤ 256) × (length share ≡ length share₀) × (length digits ≡ 256)
 
 abbrev μ-loop : tie.MeasureT-loop
-μ-loop share₀ at digits₀ byte₀ t5 share digits byte = 256 - byte
+μ-loop share₀ at digits₀ byte₀ share digits byte = 256 - byte
 
 loop-holds : tie.Need-loop-holds Inv-loop μ-loop
 loop-holds c = search needs
@@ -32,19 +31,7 @@ loop-less : tie.Need-loop-less Inv-loop μ-loop
 loop-less c = search needs
 
 loop-again : tie.Need-loop-again Inv-loop μ-loop
-loop-again c = simp length-set (omega arith)
-
-slice-aggregate-say : tie.Need-slice-aggregate-say Inv-loop μ-loop
-slice-aggregate-say c = search needs
-
-say-requires : tie.Need-say-requires Inv-loop μ-loop
-say-requires c κs = search needs
-
-slice-aggregate-say-2 : tie.Need-slice-aggregate-say-2 Inv-loop μ-loop
-slice-aggregate-say-2 c = search needs
-
-say-requires-2 : tie.Need-say-requires-2 Inv-loop μ-loop
-say-requires-2 c κs = search needs
+loop-again c = search needs
 
 same-length : tie.Need-same-length Inv-loop μ-loop
 same-length c = search needs
@@ -65,9 +52,5 @@ sweep-spec =
     add-byte
     loop-less
     loop-again
-    slice-aggregate-say
-    say-requires
-    slice-aggregate-say-2
-    say-requires-2
     same-length
     returns)
