@@ -1,4 +1,5 @@
 -- Where the search stands between two bytes, what it tells, and that there is one judgment.
 pub mod Walk
+pub mod Joining
 pub mod Verdicts
 pub mod Outcomes

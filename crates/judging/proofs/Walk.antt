@@ -1,112 +1,111 @@
--- Going through a share record by record and byte by byte, as its reader does, after a head of H bytes.
-use mathlib.Core.Path.{_≡_, refl, _∙_}
+-- Going through bytes record by record and byte by byte, as the search does, from any index of a share on.
+use mathlib.Core.Path.{_≡_, ap, sym, _∙_}
+use mathlib.Core.Bool.{true}
+use mathlib.Core.List.{List}
 use mathlib.Core.Logic.{⊎-elim}
 use Prim.Native.Nat.{ℕ, zero, suc, min, _+_, _-_, _*_, _≤_, _<_}
 use native.Mathlib.Omega.{arith}
+use lib.ListN.{length, getD}
 use Rattle.letters.proofs.Cases.{le-or-lt}
 use Rattle.records.specs.Records.{blockSize}
-use Rattle.records.specs.Steps.Places.{recordStart, recordSize}
-use Rattle.records.proofs.Places.{next-start, start-of-block}
+use Rattle.records.specs.Steps.Places.{standsIn, recordStart, recordSize, recordAt, offsetAt}
+use Rattle.records.proofs.Places.{next-start, start-of-block, found, stands-placed}
+use Rattle.layout.specs.Steps.Reading.{Skips, FullBlocks}
+use Rattle.layout.proofs.SteppedOver.{full-stand}
+use Rattle.heads.specs.declared.Head.{Head}
+use Rattle.heads.specs.Kind1.{kind1Size, kind1Tests}
+use Rattle.heads.specs.Heads.{heads}
+use Rattle.judging.specs.Steps.Search.{standsAt}
 
--- a head that isn't empty, and no longer than a block
-pub record FrontFits (H : ℕ) : Type 0 where
-  pub filled : 1 ≤ H
-  pub small : H ≤ blockSize
+pub size-at-most : (nth : ℕ) → recordSize kind1Size nth ≤ blockSize
+size-at-most zero = omega arith
+size-at-most (suc r) = omega arith
 
-size-some : (H nth : ℕ) → FrontFits H → 1 ≤ recordSize H nth
-size-some H zero f = f .filled
-size-some H (suc r) f = omega arith
-
-pub size-at-most : (H nth : ℕ) → FrontFits H → recordSize H nth ≤ blockSize
-size-at-most H zero f = f .small
-size-at-most H (suc r) f = omega arith
-
--- between two records of so many bytes: where one is left, a record starts there
-pub record BetweenRecords (H count at nth : ℕ) : Type 0 where
-  pub fits : FrontFits H
-  pub within : at ≤ count
-  pub begins : at < count → at ≡ recordStart H nth
-  pub few : nth ≤ at
-
--- in a record: its bytes are those up to end, or as many of them as there are
-pub record InRecord (H count nth start end at : ℕ) : Type 0 where
-  pub fits : FrontFits H
+-- In a record, of which the bytes from `start` up to `end` are there, and those up to `at` are passed. The bytes begin at index `base` of the
+-- share, and that at `start` has this offset in the record.
+pub record InRecord (base count nth start offset end at : ℕ) : Type 0 where
+  pub begins : base + start ≡ recordStart kind1Size nth + offset
   pub from : start ≤ at
   pub until : at ≤ end
   pub there : end ≤ count
-  pub size : end ≤ start + recordSize H nth
-  pub whole : end < count → end ≡ start + recordSize H nth
-  pub begins : start ≡ recordStart H nth
-  pub few : nth ≤ start
+  pub size : offset + (end - start) ≤ recordSize kind1Size nth
+  pub whole : end < count → offset + (end - start) ≡ recordSize kind1Size nth
   pub some : start < end
 
-pub outset : (H count : ℕ) → FrontFits H → BetweenRecords H count 0 0
-outset H count f = record { fits = f; within = omega arith; begins = λ h. refl; few = omega arith }
-
 pub enter :
-    (H count at nth size end : ℕ) → BetweenRecords H count at nth → at < count → size ≡ recordSize H nth → end ≡ min (at + size) count
-    → InRecord H count nth at end at
-enter H count at nth size end b h s e =
-    let one = size-some H nth (b .fits) in
+    (base count at nth offset left end : ℕ) → at < count → nth ≡ recordAt kind1Size (base + at) → offset ≡ offsetAt kind1Size (base + at)
+    → left ≡ recordSize kind1Size nth - offset → end ≡ min (at + left) count
+    → InRecord base count nth at offset end at
+enter base count at nth offset left end h en eo el ee =
+    let place : (offset < recordSize kind1Size nth) × (base + at ≡ recordStart kind1Size nth + offset) = rw (en, eo) (found kind1Size (base + at)) in
     record {
-      fits = b .fits;
+      begins = place .1;
       from = omega arith;
-      until = omega arith;
+      until = omega (arith, place .0);
       there = omega arith;
-      size = omega arith;
-      whole = λ l. omega arith;
-      begins = b .begins h;
-      few = b .few;
-      some = omega arith;
+      size = omega (arith, place .0);
+      whole = λ l. omega (arith, place .0);
+      some = omega (arith, place .0);
     }
+
+pub offset-within :
+    (p nth offset size : ℕ) → nth ≡ recordAt kind1Size p → offset ≡ offsetAt kind1Size p → size ≡ recordSize kind1Size nth → offset ≤ size
+offset-within p nth offset size en eo es = let w : offset < recordSize kind1Size nth = rw (en, eo) (found kind1Size p .0) in omega arith
 
 pub stride :
-    (H count nth start end at next : ℕ) → InRecord H count nth start end at → at ≤ next → next ≤ end → InRecord H count nth start end next
-stride H count nth start end at next w lo hi =
-    record {
-      fits = w .fits;
-      from = omega arith;
-      until = hi;
-      there = w .there;
-      size = w .size;
-      whole = w .whole;
-      begins = w .begins;
-      few = w .few;
-      some = w .some;
-    }
+    (base count nth start offset end at next : ℕ) → InRecord base count nth start offset end at → at ≤ next → next ≤ end
+    → InRecord base count nth start offset end next
+stride base count nth start offset end at next w lo hi =
+    record { begins = w .begins; from = omega (arith, w .from); until = hi; there = w .there; size = w .size; whole = w .whole; some = w .some }
 
-leave : (H count nth start end at : ℕ) → InRecord H count nth start end at → end ≤ at → BetweenRecords H count at (nth + 1)
-leave H count nth start end at w h =
-    record {
-      fits = w .fits;
-      within = omega arith;
-      begins = λ l. omega (arith, w .whole (omega arith), next-start H nth);
-      few = omega arith;
-    }
+-- no offset is as large as a block
+pub offset-small :
+    (base count nth start offset end at : ℕ) → InRecord base count nth start offset end at → at < end → offset + (at - start) < blockSize
+offset-small base count nth start offset end at w h = omega (arith, size-at-most nth, w)
 
--- the record is left, and as many whole blocks after it are passed
-module _ (H count nth start end at : ℕ) (w : InRecord H count nth start end at) (done : end ≤ at) where
-  -- where a block after the record is there, the record is whole, and that block starts where it ends
-  pub at-block : (e : ℕ) → nth < e → H + e * blockSize ≤ count → at ≡ H + nth * blockSize
-  at-block e some there =
-      let starts = next-start H nth ∙ start-of-block H nth in
-      let past : end < count = omega (arith, starts, w) in omega (arith, starts, w .whole past, w)
+-- every byte so far stands
+abbrev pub SoFar : ℕ → Head → List ℕ → ℕ → Type 0
+SoFar base h ys at = (p : ℕ) → p < at → standsAt h (base + p) (getD ys p 0) ≡ true
 
-  pub pass : (e : ℕ) → nth ≤ e → (nth < e → H + e * blockSize ≤ count) → BetweenRecords H count (at + (e - nth) * blockSize) (e + 1)
-  pass e on there = ⊎-elim none some (le-or-lt e nth)
-    where
-      none : e ≤ nth → BetweenRecords H count (at + (e - nth) * blockSize) (e + 1)
-      none h =
-          let same : e ≡ nth = omega arith in
-          let stay : at + (e - nth) * blockSize ≡ at = omega arith in
-          rw stay (rw same (leave H count nth start end at w done))
+module _ (base : ℕ) (h : Head) (T : ℕ) (ys : List ℕ) (total : T ≡ heads .total h) (nth start offset end at : ℕ)
+    (w : InRecord base (length ys) nth start offset end at) where
+  -- a byte of the record is tested by its offset
+  pub tested :
+      (p : ℕ) → start ≤ p → p < end
+      → standsAt h (base + p) (getD ys p 0) ≡ standsIn (kind1Tests h (getD ys p 0)) T nth (offset + (p - start)) (getD ys p 0)
+  unfolding standsAt
+  tested p lo hi =
+      ap (λ t. standsIn (kind1Tests h (getD ys p 0)) t (recordAt kind1Size (base + p)) (offsetAt kind1Size (base + p)) (getD ys p 0)) (sym total)
+      ∙ stands-placed kind1Size (kind1Tests h (getD ys p 0)) T nth (offset + (p - start)) (base + p) (getD ys p 0) (omega (arith, w)) (omega (arith, w))
 
-      some : nth < e → BetweenRecords H count (at + (e - nth) * blockSize) (e + 1)
-      some h =
-          let here = at-block e h (there h) in
-          let fits = there h in
-          record { fits = w .fits; within = omega arith; begins = λ l. omega (arith, start-of-block H e); few = omega arith }
+  -- past a byte that stands and what is stepped over after it
+  pub further :
+      (next : ℕ) → at < end → SoFar base h ys at → standsIn (kind1Tests h (getD ys at 0)) T nth (offset + (at - start)) (getD ys at 0) ≡ true
+      → Skips ys T nth (offset + (at - start)) at end next → SoFar base h ys next
+  further next inside so-far here skips p l =
+      ⊎-elim
+      (λ later.
+      ⊎-elim (λ now. let e : p ≡ at = omega arith in rw e (tested at (w .from) inside ∙ here))
+      (λ after.
+      let same : offset + (p - start) ≡ offset + (at - start) + (p - at) = omega (arith, w .from) in
+      tested p (omega (arith, w .from)) (omega (arith, skips .within))
+      ∙ ap (λ j. standsIn (kind1Tests h (getD ys p 0)) T nth j (getD ys p 0)) same
+      ∙ skips .stand (kind1Tests h (getD ys p 0)) p after l)
+      (le-or-lt p at))
+      (so-far p) (le-or-lt at p)
 
--- no offset of a record is as large as a block
-pub offset-small : (H count nth start end at : ℕ) → InRecord H count nth start end at → at < end → at - start < blockSize
-offset-small H count nth start end at w h = omega (arith, size-at-most H nth (w .fits))
+  -- where a block is there after the record, the record is whole, and the block starts where it ends
+  at-block : (count : ℕ) → end ≤ at → 1 ≤ count → at + count * blockSize ≤ length ys → base + at ≡ kind1Size + nth * blockSize
+  at-block count done some fits =
+      let past : end < length ys = omega (arith, w) in
+      omega (arith, next-start kind1Size nth ∙ start-of-block kind1Size nth, w .whole past, w)
+
+  -- past the record and the full blocks after it
+  pub beyond : (count : ℕ) → end ≤ at → SoFar base h ys at → FullBlocks at ys T nth count → SoFar base h ys (at + count * blockSize)
+  unfolding standsAt
+  beyond count done so-far full p l =
+      ⊎-elim
+      (λ later.
+      ap (λ t. standsIn (kind1Tests h (getD ys p 0)) t (recordAt kind1Size (base + p)) (offsetAt kind1Size (base + p)) (getD ys p 0)) (sym total)
+      ∙ full-stand kind1Size base at ys T (kind1Tests h (getD ys p 0)) nth count p full (at-block count done (omega arith) (full .there)) later l)
+      (so-far p) (le-or-lt at p)

@@ -1,5 +1,5 @@
 // What bytes are: a share, the beginning of one, or neither. The search for the first byte that can't stand where it is tells.
-mod search;
+pub mod search;
 
 use group::Refusal;
 use heads::Head;
@@ -26,7 +26,7 @@ pub fn judge(share: &[u8]) -> Judgment
 {
     let head = kind1::head_in(share);
     let letters = kind1::total(head);
-    let at = search::first_wrong(share, kind1::SIZE, head, letters);
+    let at = search::first_wrong(share, 0, head, letters);
     judged(kind1::SIZE, head, letters, at, share.len())
 }
 

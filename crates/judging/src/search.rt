@@ -5,13 +5,12 @@ use layout::skipping;
 use records::sizes;
 use records::standing;
 ghost use mathlib.Core.Path.{_≡_};
-ghost use Prim.Native.Nat.{_<_};
+ghost use Prim.Native.Nat.{_≤_, _<_};
 ghost use Rattle.records.specs.Records.{blockSize, totalLimit};
 ghost use Rattle.records.specs.Steps.Places.{standsIn};
-ghost use Rattle.layout.specs.Layout.{sizeIn};
 ghost use Rattle.heads.specs.Kind1.{kind1Tests};
 ghost use Rattle.heads.specs.Heads.{heads};
-ghost use Rattle.judging.specs.Steps.Search.{Stops};
+ghost use Rattle.judging.specs.Steps.Search.{farthest, StopsFrom};
 
 // A byte can stand at this offset of this record.
 fn stands_in(head: Head, letters: usize, nth: usize, offset: usize, byte: u8) -> bool
@@ -24,26 +23,26 @@ fn stands_in(head: Head, letters: usize, nth: usize, offset: usize, byte: u8) ->
     standing::record_stands(letters, nth - 1, offset, byte)
 }
 
-// The index of the first byte that can't stand there, or the number of bytes: record by record, byte by byte, after a head
-// of `front` bytes. Whole full blocks are stepped over.
-pub fn first_wrong(share: &[u8], front: usize, head: Head, letters: usize) -> usize
-    requires { ⌜ (front ≡ sizeIn heads (now share)) × (head ≡ heads .headIn (now share)) × (letters ≡ heads .total head) ⌝ }
-    ensures { λ r. ⌜ Stops (now (share .entry)) r ⌝ }
+// The index of the first of these bytes that can't stand where it is, or the number of bytes: record by record, byte by byte. The first of
+// them stands at index `base` of a share with this head. Whole full blocks are stepped over.
+pub fn first_wrong(bytes: &[u8], base: usize, head: Head, letters: usize) -> usize
+    requires { ⌜ (base ≤ farthest) × (letters ≡ heads .total head) ⌝ }
+    ensures { λ r. ⌜ StopsFrom base head (now (bytes .entry)) r ⌝ }
 {
     let mut at = 0;
-    let mut nth = 0;
-    'records: while at < share.len() {
+    'records: while at < bytes.len() {
         let start = at;
-        let end = letters::lesser(start + sizes::record_size(front, nth), share.len());
+        let nth = sizes::record_at(kind1::SIZE, base + start);
+        let offset = sizes::offset_at(kind1::SIZE, base + start);
+        let left = sizes::record_size(kind1::SIZE, nth) - offset;
+        let end = letters::lesser(start + left, bytes.len());
         while at < end {
-            if !stands_in(head, letters, nth, at - start, share[at]) {
+            if !stands_in(head, letters, nth, offset + (at - start), bytes[at]) {
                 break 'records;
             }
-            at = skipping::next_tested(share, letters, nth, start, at, end);
+            at = skipping::next_tested(bytes, letters, nth, offset + (at - start), at, end);
         }
-        let next = skipping::past_full_blocks(share, front, letters, nth);
-        at += (next - nth) * sizes::BLOCK_SIZE;
-        nth = next + 1;
+        at += skipping::full_blocks_from(bytes, at, letters, nth) * sizes::BLOCK_SIZE;
     }
     at
 }

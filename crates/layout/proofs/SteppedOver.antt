@@ -34,11 +34,11 @@ no-letters T nth offset =
     record { few = omega arith; any = λ tests j byte lo hi. absurd (omega arith); filled = λ some. absurd (omega arith) }
 
 pub letters-behind :
-    (T nth offset count : ℕ) → (nth ≡ 0 → ⊥) → offset ≤ 0 → nth ≤ blocks T → count ≤ blockLetters → count ≤ T - (nth - 1) * blockLetters
+    (T nth offset count : ℕ) → (nth ≡ 0 → ⊥) → nth ≤ blocks T → offset + count ≤ blockLetters → offset + count ≤ T - (nth - 1) * blockLetters
     → Lettered T nth offset count
-letters-behind T nth offset count past kind within few left =
+letters-behind T nth offset count past within few left =
     record {
-      few = few;
+      few = omega arith;
       any =
           λ tests j byte lo hi.
           stands-past-head tests T nth j byte past ∙ any-letter T (nth - 1) j byte (λ e. omega arith) (omega (arith, past)) (omega arith);
@@ -47,15 +47,15 @@ letters-behind T nth offset count past kind within few left =
     }
 
 -- letters alone, or letters and zeros
-module _ (xs : List ℕ) (T nth start at end count past : ℕ) (from : start ≤ at) (inside : at < end) (w : Lettered T nth (at - start) count)
+module _ (xs : List ℕ) (T nth offset at end count past : ℕ) (inside : at < end) (w : Lettered T nth offset count)
     (is : past ≡ min (at + 1 + count) end) where
-  in-letters : (tests : List Bool) (p : ℕ) → at < p → p < past → standsIn tests T nth (p - start) (getD xs p 0) ≡ true
-  in-letters tests p lo hi = w .any tests (p - start) (getD xs p 0) (omega arith) (omega arith)
+  in-letters : (tests : List Bool) (p : ℕ) → at < p → p < past → standsIn tests T nth (offset + (p - at)) (getD xs p 0) ≡ true
+  in-letters tests p lo hi = w .any tests (offset + (p - at)) (getD xs p 0) (omega arith) (omega arith)
 
-  pub over-letters : Skips xs T nth start at end past
+  pub over-letters : Skips xs T nth offset at end past
   over-letters = record { on = omega arith; within = omega arith; stand = in-letters }
 
-  pub over-zeros : (next : ℕ) → (count ≡ 0 → ⊥) → ZerosTo xs past end next → Skips xs T nth start at end next
+  pub over-zeros : (next : ℕ) → (count ≡ 0 → ⊥) → ZerosTo xs past end next → Skips xs T nth offset at end next
   over-zeros next some z =
       record {
         on = omega (arith, z .on);
@@ -64,49 +64,33 @@ module _ (xs : List ℕ) (T nth start at end count past : ℕ) (from : start ≤
             λ tests p lo hi.
             ⊎-elim
             (λ later.
-            ap (standsIn tests T nth (p - start)) (z .zeros p later hi) ∙ w .filled (omega (arith, some)) tests (p - start) (omega arith))
+            ap (standsIn tests T nth (offset + (p - at))) (z .zeros p later hi) ∙ w .filled (omega (arith, some)) tests (offset + (p - at)) (omega arith))
             (in-letters tests p lo) (le-or-lt past p);
       }
 
-module _ (H : ℕ) (xs : List ℕ) (T : ℕ) where
-  -- in a whole full block with its kind
-  in-full :
-      (tests : List Bool) (q j : ℕ) → (q + 1) * blockLetters ≤ T → getD xs (H + q * blockSize) 0 ≡ kindFull → j < blockSize
-      → standsIn tests T (suc q) j (getD xs (H + q * blockSize + j) 0) ≡ true
-  unfolding standsIn
-  in-full tests q zero fits kind hj =
-      record-block T q 0 _ (blocks T) refl (omega arith)
-      ∙ block-first T q 0 _ refl
-      ∙ eq-eqb _ (blockKind T q)
-      (ap (λ i. getD xs i 0) (omega arith) ∙ kind ∙ sym (simp (le-leb ((q + 1) * blockLetters) T fits)))
-  in-full tests q (suc j) fits kind hj = any-letter T q (suc j) _ (λ z. omega arith) (omega arith) (omega arith)
+-- in a whole full block with its kind every byte stands
+in-full :
+    (tests : List Bool) (T r j byte : ℕ) → (r + 1) * blockLetters ≤ T → j < blockSize → (j ≡ 0 → byte ≡ kindFull)
+    → standsIn tests T (suc r) j byte ≡ true
+unfolding standsIn
+in-full tests T r zero byte fits hj kind =
+    record-block T r 0 byte (blocks T) refl (omega arith)
+    ∙ block-first T r 0 byte refl
+    ∙ eq-eqb byte (blockKind T r) (kind refl ∙ sym (simp (le-leb ((r + 1) * blockLetters) T fits)))
+in-full tests T r (suc j) byte fits hj kind = any-letter T r (suc j) byte (λ z. omega arith) (omega arith) (omega arith)
 
-  pub full-stand :
-      (tests : List Bool) (r e p : ℕ) → FullBlocks H xs T r e → H + r * blockSize ≤ p → p < H + e * blockSize
-      → standsIn tests T (recordAt H p) (offsetAt H p) (getD xs p 0) ≡ true
-  full-stand tests r e p w lo hi =
-      let full = w .full (omega arith) in
-      stands-placed H tests T (suc q) j p (getD xs p 0) (omega arith) place
-      ∙ ap (λ i. standsIn tests T (suc q) j (getD xs i 0)) place
-      ∙ in-full tests q j (omega arith) (w .kinds q (omega arith) (omega arith)) (omega arith)
-    where
-      q : ℕ
-      q = (p - H) / blockSize
+-- so every byte of the full blocks stands, where block r begins at this index of the bytes and these begin at index `base` of the share
+pub full-stand :
+    (H base start : ℕ) (xs : List ℕ) (T : ℕ) (tests : List Bool) (r count p : ℕ) → FullBlocks start xs T r count → base + start ≡ H + r * blockSize
+    → start ≤ p → p < start + count * blockSize
+    → standsIn tests T (recordAt H (base + p)) (offsetAt H (base + p)) (getD xs p 0) ≡ true
+full-stand H base start xs T tests r count p w begins lo hi =
+    let full = w .full (omega arith) in
+    stands-placed H tests T (suc (r + q)) j (base + p) (getD xs p 0) (omega arith) (omega arith)
+    ∙ in-full tests T (r + q) j (getD xs p 0) (omega arith) (omega arith) (λ first. let here : p ≡ start + q * blockSize = omega arith in rw here (w .kinds q (omega arith)))
+  where
+    q : ℕ
+    q = (p - start) / blockSize
 
-      j : ℕ
-      j = (p - H) % blockSize
-
-      place : p ≡ H + q * blockSize + j
-      place = omega arith
-
--- blocks that are within the bytes and within the full ones, and of that kind
-pub full-blocks :
-    (H : ℕ) (xs : List ℕ) (T r e most : ℕ) → H + most * blockSize ≤ length xs → most * blockLetters ≤ T → r ≤ e → (r < e → e ≤ most)
-    → ((q : ℕ) → r ≤ q → q < e → getD xs (H + q * blockSize) 0 ≡ kindFull) → FullBlocks H xs T r e
-full-blocks H xs T r e most there full on within kinds =
-    record {
-      on = on;
-      there = λ h. omega (arith, within h);
-      full = λ h. omega (arith, within h);
-      kinds = kinds;
-    }
+    j : ℕ
+    j = (p - start) % blockSize

@@ -5,24 +5,25 @@ ghost use lib.ListN.{length};
 ghost use Rattle.records.specs.Records.{totalLimit};
 ghost use Rattle.layout.specs.Steps.Reading.{Lettered, ZerosTo, Skips, FullBlocks};
 
-// How many letters follow this byte in its record: those behind a block's kind.
+// How many letters follow this byte in its record: those of its block that are left.
 fn letters_after(letters: usize, nth: usize, offset: usize) -> usize
     requires { ⌜ letters < totalLimit ⌝ }
     ensures { λ r. ⌜ Lettered letters nth offset r ⌝ }
 {
-    if 0 < offset {
-        return 0;
-    }
     if nth == 0 {
         return 0;
     }
     if sizes::blocks_of(letters) < nth {
         return 0;
     }
-    letters::lesser(
+    let here = letters::lesser(
         letters - (nth - 1) * sizes::BLOCK_LETTERS,
         sizes::BLOCK_LETTERS,
-    )
+    );
+    if here <= offset {
+        return 0;
+    }
+    here - offset
 }
 
 // The index of the first byte from `at` on that isn't zero, or `end`.
@@ -40,20 +41,20 @@ fn past_zeros(share: &[u8], at: usize, end: usize) -> usize
     i
 }
 
-// The byte after this one that has to be looked at, or the record's end. Any letter can stand, so letters are stepped over, and so are
-// the zeros that fill a block up.
+// The byte after the one at `at`, which stands at this offset of its record, that has to be looked at, or `end`. Any letter can stand, so
+// letters are stepped over, and so are the zeros that fill a block up.
 pub fn next_tested(
     share: &[u8],
     letters: usize,
     nth: usize,
-    start: usize,
+    offset: usize,
     at: usize,
     end: usize,
 ) -> usize
-    requires { ⌜ (letters < totalLimit) × (start ≤ at) × (at < end) × (end ≤ length (now share)) ⌝ }
-    ensures { λ r. ⌜ Skips (now (share .entry)) letters nth start at end r ⌝ }
+    requires { ⌜ (letters < totalLimit) × (at < end) × (end ≤ length (now share)) ⌝ }
+    ensures { λ r. ⌜ Skips (now (share .entry)) letters nth offset at end r ⌝ }
 {
-    let count = letters_after(letters, nth, at - start);
+    let count = letters_after(letters, nth, offset);
     let past = letters::lesser(at + 1 + count, end);
     if count == 0 {
         return past;
@@ -61,21 +62,23 @@ pub fn next_tested(
     past_zeros(share, past, end)
 }
 
-// The first block from r on that isn't a whole full one with its kind: in those before it every byte stands.
-pub fn past_full_blocks(share: &[u8], front: usize, letters: usize, r: usize) -> usize
-    ensures { λ e. ⌜ FullBlocks front (now (share .entry)) letters r e ⌝ }
+// How many whole full blocks with their kind follow one after another from `start` on, where block r begins: every byte of them stands.
+pub fn full_blocks_from(share: &[u8], start: usize, letters: usize, r: usize) -> usize
+    requires { ⌜ start ≤ length (now share) ⌝ }
+    ensures { λ count. ⌜ FullBlocks start (now (share .entry)) letters r count ⌝ }
 {
-    if share.len() < front {
-        return r;
+    let full = letters / sizes::BLOCK_LETTERS;
+    if full <= r {
+        return 0;
     }
-    let whole = (share.len() - front) / sizes::BLOCK_SIZE;
-    let most = letters::lesser(whole, letters / sizes::BLOCK_LETTERS);
-    let mut e = r;
-    while e < most {
-        if share[front + e * sizes::BLOCK_SIZE] != sizes::KIND_FULL {
-            return e;
+    let whole = (share.len() - start) / sizes::BLOCK_SIZE;
+    let most = letters::lesser(whole, full - r);
+    let mut count = 0;
+    while count < most {
+        if share[start + count * sizes::BLOCK_SIZE] != sizes::KIND_FULL {
+            return count;
         }
-        e += 1;
+        count += 1;
     }
-    e
+    count
 }

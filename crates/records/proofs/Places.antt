@@ -2,6 +2,7 @@
 use mathlib.Core.Path.{_≡_, refl, sym, ap, ap₂, _∙_}
 use mathlib.Core.Bool.{Bool, false}
 use mathlib.Core.List.{List}
+use mathlib.Core.Logic.{⊎-elim}
 use Prim.Native.Nat.{ℕ, zero, suc, _+_, _-_, _*_, _/_, _%_, _≤_, _<_}
 use native.Mathlib.Numerals.{add-one}
 use native.Mathlib.Omega.{arith}
@@ -9,6 +10,7 @@ use lib.Dec.{ltb, eqb}
 use lib.ListN.{getD}
 use borrow.Author.Tests.{lt-ltb, le-ltb, eq-eqb, ne-eqb}
 use Rattle.letters.specs.Places.{either}
+use Rattle.letters.proofs.Cases.{le-or-lt}
 use Rattle.records.specs.Records.{blockLetters, blockSize, blocks, endRecord}
 use Rattle.records.specs.Steps.Places.{blockKind, blockStands, endStands, recordStands, standsIn, recordStart, recordSize, recordAt, offsetAt}
 
@@ -89,6 +91,15 @@ module _ (H : ℕ) where
   pub placed : (nth j p : ℕ) → j < recordSize H nth → p ≡ recordStart H nth + j → (recordAt H p ≡ nth) × (offsetAt H p ≡ j)
   placed zero j p h e = let here : p ≡ j = omega arith in rw here (head-at j h)
   placed (suc r) j p h e = let here : p ≡ H + (r * blockSize + j) = omega arith in rw here (block-at r j h)
+
+  pub found : (p : ℕ) → (offsetAt H p < recordSize H (recordAt H p)) × (p ≡ recordStart H (recordAt H p) + offsetAt H p)
+  found p = ⊎-elim past within (le-or-lt H p)
+    where
+      past : H ≤ p → (offsetAt H p < recordSize H (recordAt H p)) × (p ≡ recordStart H (recordAt H p) + offsetAt H p)
+      past h = simp (le-ltb p H h) (omega arith, omega arith)
+
+      within : p < H → (offsetAt H p < recordSize H (recordAt H p)) × (p ≡ recordStart H (recordAt H p) + offsetAt H p)
+      within h = simp (lt-ltb p H h) (h, omega arith)
 
   -- so the test at an offset of a record is that of the byte's index
   pub stands-placed :

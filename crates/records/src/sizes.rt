@@ -3,7 +3,7 @@ use crate::numbers;
 ghost use mathlib.Core.Path.{_≡_};
 ghost use Prim.Native.Nat.{_≤_, _<_};
 ghost use lib.ListN.{getD};
-ghost use Rattle.records.specs.Steps.Places.{blockKind, recordSize};
+ghost use Rattle.records.specs.Steps.Places.{blockKind, recordSize, recordAt, offsetAt};
 ghost use Rattle.records.specs.Records.{blockSize, totalLimit, blocks, sizeFor, endRecord};
 
 // The kinds of record.
@@ -29,6 +29,26 @@ pub fn record_size(front: usize, nth: usize) -> usize
         return front;
     }
     BLOCK_SIZE
+}
+
+// The record that the byte at index p of a share stands in, the head being 0,
+pub fn record_at(front: usize, p: usize) -> usize
+    ensures { λ r. ⌜ r ≡ recordAt front p ⌝ }
+{
+    if p < front {
+        return 0;
+    }
+    (p - front) / BLOCK_SIZE + 1
+}
+
+// and its offset there.
+pub fn offset_at(front: usize, p: usize) -> usize
+    ensures { λ r. ⌜ r ≡ offsetAt front p ⌝ }
+{
+    if p < front {
+        return p;
+    }
+    (p - front) % BLOCK_SIZE
 }
 
 // The blocks of a share of so many letters.

@@ -1,7 +1,8 @@
 -- `judging::judge` meets its contract: where the reader's loops stop tells what the bytes are.
-use mathlib.Core.Path.{refl}
+use mathlib.Core.Path.{refl, sym}
 use native.Mathlib.Omega.{arith}
 use Rattle.heads.proofs.Kind1Laws.{total-small}
+use Rattle.judging.proofs.Joining.{from-front}
 use Rattle.judging.proofs.Verdicts.{judges}
 use borrow.Author.Needs.{needs}
 use Rattle.judging.proofs.judge.Statement.{statement}
@@ -22,7 +23,7 @@ judged-requires c κs = (omega arith, omega (arith, total-small (c .before .befo
 returns : tie.Need-returns
 returns c =
     let s = c .before .before .before .before in
-    judges (s .before .args .share .now) (record { below = λ i h. omega (arith, s .shared-slice-known .given i) }) _ (c .before .first-wrong .ensures) _ _ _ _ _ refl
+    judges (s .before .args .share .now) (record { below = λ i h. omega (arith, s .shared-slice-known .given i) }) _ (from-front _ _ (rw (sym (c .before .before .before .head-in .ensures)) (c .before .first-wrong .ensures))) _ _ _ _ _ refl
     (c .before .before .before .head-in .ensures) (c .before .before .total .ensures) refl (c .judged .ensures)
 
 pub judge-spec : {M : Type 1} → statement M

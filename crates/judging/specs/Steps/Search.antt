@@ -1,17 +1,33 @@
 -- What the search finds, and what that tells.
 use mathlib.Core.Path.{_≡_}
-use mathlib.Core.Bool.{true, false}
+use mathlib.Core.Bool.{Bool, true, false, cond}
 use mathlib.Core.List.{List}
-use Prim.Native.Nat.{ℕ, _≤_, _<_}
-use lib.ListN.{length}
-use Rattle.layout.specs.Steps.Stands.{stands}
-use Rattle.heads.specs.Heads.{heads}
-use mathlib.Core.Bool.{cond}
+use Prim.Native.Nat.{ℕ, _+_, _*_, _≤_, _<_}
 use lib.Dec.{ltb, eqb}
+use lib.ListN.{length, getD}
 use Rattle.group.specs.declared.Refusal.{Refusal}
-use Rattle.records.specs.Records.{sizeFor}
+use Rattle.records.specs.Records.{blockSize, totalLimit, sizeFor}
+use Rattle.records.specs.Steps.Places.{standsIn, recordAt, offsetAt}
+use Rattle.layout.specs.Steps.Stands.{stands}
+use Rattle.heads.specs.Kind1.{kind1Size, kind1Tests}
+use Rattle.heads.specs.Heads.{heads}
 use Rattle.heads.specs.declared.Head.{Head}
 use Rattle.judging.specs.declared.Judgment.{Judgment}
+
+-- this byte can stand at index p of a share with this head
+unfoldable pub standsAt : Head → ℕ → ℕ → Bool
+standsAt h p byte = standsIn (kind1Tests h byte) (heads .total h) (recordAt kind1Size p) (offsetAt kind1Size p) byte
+
+-- no byte of a share stands as far as this
+abbrev pub farthest : ℕ
+farthest = blockSize * totalLimit
+
+-- Where the first of these bytes stands at index `base` of a share with this head, every byte before q can stand; and q is past the last
+-- byte, or that byte can't stand.
+pub record StopsFrom (base : ℕ) (h : Head) (ys : List ℕ) (q : ℕ) : Type 0 where
+  pub within : q ≤ length ys
+  pub before : (p : ℕ) → p < q → standsAt h (base + p) (getD ys p 0) ≡ true
+  pub wrong : q < length ys → standsAt h (base + q) (getD ys q 0) ≡ false
 
 -- every byte before index q stands; and q is past the last byte, or that byte doesn't stand
 pub record Stops (xs : List ℕ) (q : ℕ) : Type 0 where

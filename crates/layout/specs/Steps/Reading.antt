@@ -24,15 +24,14 @@ pub record ZerosTo (xs : List ℕ) (a end r : ℕ) : Type 0 where
   pub within : r ≤ end
   pub zeros : (p : ℕ) → a ≤ p → p < r → getD xs p 0 ≡ 0
 
--- between the byte at this index and the next one that is looked at, all bytes of the record stand
-pub record Skips (xs : List ℕ) (letters nth start at end next : ℕ) : Type 0 where
+-- between the byte at this index, which has this offset in its record, and the next one that is looked at, all bytes of the record stand
+pub record Skips (xs : List ℕ) (letters nth offset at end next : ℕ) : Type 0 where
   pub on : at < next
   pub within : next ≤ end
-  pub stand : (tests : List Bool) (p : ℕ) → at < p → p < next → standsIn tests letters nth (p - start) (getD xs p 0) ≡ true
+  pub stand : (tests : List Bool) (p : ℕ) → at < p → p < next → standsIn tests letters nth (offset + (p - at)) (getD xs p 0) ≡ true
 
--- from block r up to e all blocks are there, full, and of that kind
-pub record FullBlocks (head : ℕ) (xs : List ℕ) (letters r e : ℕ) : Type 0 where
-  pub on : r ≤ e
-  pub there : r < e → head + e * blockSize ≤ length xs
-  pub full : r < e → e * blockLetters ≤ letters
-  pub kinds : (q : ℕ) → r ≤ q → q < e → getD xs (head + q * blockSize) 0 ≡ kindFull
+-- from block r, which begins at this index, so many blocks are there, full, and of that kind
+pub record FullBlocks (start : ℕ) (xs : List ℕ) (letters r count : ℕ) : Type 0 where
+  pub there : start + count * blockSize ≤ length xs
+  pub full : 1 ≤ count → (r + count) * blockLetters ≤ letters
+  pub kinds : (q : ℕ) → q < count → getD xs (start + q * blockSize) 0 ≡ kindFull

@@ -4,9 +4,6 @@ use borrow.Author.Needs.{needs}
 use Rattle.layout.proofs.skipping.next_tested.Statement.{statement}
 use Rattle.layout.proofs.skipping.next_tested.Tie as tie
 
-sub-letters-after : tie.Need-sub-letters-after
-sub-letters-after c = search needs
-
 letters-after-requires : tie.Need-letters-after-requires
 letters-after-requires c κs = search needs
 
@@ -20,19 +17,20 @@ lesser-requires : tie.Need-lesser-requires
 lesser-requires c κs = search needs
 
 returns : tie.Need-returns
-returns c = let s = c .before .before .before .before in over-letters (s .args .share .now) _ _ _ _ _ _ _ (s .pre .1) (s .pre .2) (c .before .before .letters-after .ensures) (c .before .lesser .ensures)
+returns c = let s = c .before .before .before .before in
+    over-letters (s .args .share .now) _ _ _ _ _ _ _ (s .pre .1) (c .before .before .letters-after .ensures) (c .before .lesser .ensures)
 
 past-zeros-requires : tie.Need-past-zeros-requires
 past-zeros-requires c κs = search needs
 
 returns-2 : tie.Need-returns-2
-returns-2 c = let s = c .before .before .before .before .before in over-zeros (s .args .share .now) _ _ _ _ _ _ _ (s .pre .1) (s .pre .2) (c .before .before .before .letters-after .ensures) (c .before .before .lesser .ensures) _ (c .before .if1 .left) (c .past-zeros .ensures)
+returns-2 c = let s = c .before .before .before .before .before in
+    over-zeros (s .args .share .now) _ _ _ _ _ _ _ (s .pre .1) (c .before .before .before .letters-after .ensures) (c .before .before .lesser .ensures) _ (c .before .if1 .left) (c .past-zeros .ensures)
 
 pub next-tested-spec : {M : Type 1} → statement M
 next-tested-spec =
     tie.close
     (tie.spec
-    sub-letters-after
     letters-after-requires
     add-lesser
     add-lesser-2
