@@ -90,14 +90,17 @@ pair-back x h = omega arith
 four-back : (x : ℕ) → x < 2 ^ 32 → four (x % 256) (x / 256 % 256) (x / 256 / 256 % 256) (x / 256 / 256 / 256 % 256) ≡ x
 four-back x h = omega arith
 
--- the bytes of a head in range tell it,
-told : (h : Head) → Kind1Numbers h → (rest : List ℕ) → kind1In (kind1Record h ++ rest) ≡ h
+-- the bytes of a head whose numbers have room in them tell it,
+pub told-by-bytes : (h : Head) → h .group .l < 256 ^ 2 → h .batch < 2 ^ 32 → (rest : List ℕ) → kind1In (kind1Record h ++ rest) ≡ h
 unfolding kind1In
-told h w rest =
+told-by-bytes h l batch rest =
     ap₂
     (λ l batch. record { group = groupOf (h .group .n) (h .group .k) (h .group .d) l; node = h .node; batch = batch })
-    (pair-back (h .group .l) (omega (arith, w .node .group)))
-    (four-back (h .batch) (w .batch))
+    (pair-back (h .group .l) l)
+    (four-back (h .batch) batch)
+
+told : (h : Head) → Kind1Numbers h → (rest : List ℕ) → kind1In (kind1Record h ++ rest) ≡ h
+told h w rest = told-by-bytes h (omega (arith, w .node .group)) (w .batch) rest
 
 -- and pass their tests
 tests-hold : (h : Head) → Kind1Numbers h → (p : ℕ) → p < kind1Size → getD (kind1Tests h kindHead) p true ≡ true
@@ -115,10 +118,15 @@ tests-hold h w =
 
 -- numbers and tests depend on no later byte
 module _ (xs zs : List ℕ) where
-  same-head : SameBelow kind1Size xs zs → kind1In xs ≡ kind1In zs
+  -- nor do numbers on the kind
+  pub same-numbers : ((i : ℕ) → 1 ≤ i → i < kind1Size → getD xs i 0 ≡ getD zs i 0) → kind1In xs ≡ kind1In zs
   unfolding kind1In
-  same-head e =
-      rw (e 1 (omega arith), e 2 (omega arith), e 3 (omega arith), e 4 (omega arith), e 5 (omega arith), e 6 (omega arith), e 7 (omega arith), e 8 (omega arith), e 9 (omega arith), e 10 (omega arith))
+  same-numbers e =
+      let f : (i : ℕ) → (1 ≤ i) × (i < kind1Size) → getD xs i 0 ≡ getD zs i 0 = λ i w. e i (w .0) (w .1) in
+      rw (f 1 (omega arith), f 2 (omega arith), f 3 (omega arith), f 4 (omega arith), f 5 (omega arith), f 6 (omega arith), f 7 (omega arith), f 8 (omega arith), f 9 (omega arith), f 10 (omega arith))
+
+  same-head : SameBelow kind1Size xs zs → kind1In xs ≡ kind1In zs
+  same-head e = same-numbers (λ i lo hi. e i hi)
 
   same-test : (p : ℕ) → p < kind1Size → SameBelow (suc p) xs zs → getD (kind1 .headTests xs) p true ≡ getD (kind1 .headTests zs) p true
   unfolding kind1In
@@ -135,6 +143,30 @@ module _ (xs zs : List ℕ) where
       (λ e. refl)
       (λ e. refl)
       (λ e. refl)
+
+-- bytes are those of the numbers that they tell
+module _ (xs : List ℕ) (bytes : Bytes xs) where
+  -- a byte that isn't there counts as 0
+  pub any-byte : (i : ℕ) → getD xs i 0 < 256
+  any-byte i = ⊎-elim (λ past. let none : getD xs i 0 ≡ 0 = List·getD-eq-default xs 0 past in omega arith) (bytes .below i) (le-or-lt (length xs) i)
+
+  pub own-numbers : (p : ℕ) → p < kind1Size → 1 ≤ p → getD xs p 0 ≡ getD (kind1Record (kind1In xs)) p 0
+  unfolding kind1In
+  own-numbers =
+      each-offset (λ p. 1 ≤ p → getD xs p 0 ≡ getD (kind1Record (kind1In xs)) p 0)
+      (λ l. absurd (omega arith))
+      (λ l. refl) (λ l. refl) (λ l. refl) (λ l. refl)
+      (λ l. omega (arith, any-byte 5))
+      (λ l. omega (arith, any-byte 5, any-byte 6))
+      (λ l. omega (arith, any-byte 7))
+      (λ l. omega (arith, any-byte 7, any-byte 8))
+      (λ l. omega (arith, any-byte 7, any-byte 8, any-byte 9))
+      (λ l. omega (arith, any-byte 7, any-byte 8, any-byte 9, any-byte 10))
+
+  -- with the kind where that is tested
+  pub own-below : (p : ℕ) → p < kind1Size → getD (kind1 .headTests xs) 0 true ≡ true → getD xs p 0 ≡ getD (kind1Record (kind1In xs)) p 0
+  own-below p h kind =
+      ⊎-elim (own-numbers p h) (λ first. let e : p ≡ 0 = omega arith in rw e (eqb-true _ _ kind)) (le-or-lt 1 p)
 
 -- bytes that pass all tests
 module _ (xs : List ℕ) (bytes : Bytes xs) (long : kind1Size ≤ length xs) (test : Passes kind1 xs kind1Size) where
@@ -172,17 +204,7 @@ module _ (xs : List ℕ) (bytes : Bytes xs) (long : kind1Size ≤ length xs) (te
 
   -- and are those of the head that they tell
   own : SameBelow kind1Size xs (kind1Record (kind1In xs))
-  unfolding kind1In
-  own =
-      each-offset (λ p. getD xs p 0 ≡ getD (kind1Record (kind1In xs)) p 0)
-      (eqb-true _ _ (test 0 (omega arith)))
-      refl refl refl refl
-      (omega (arith, byte 5 (omega arith)))
-      (omega (arith, byte 5 (omega arith), byte 6 (omega arith)))
-      (omega (arith, byte 7 (omega arith)))
-      (omega (arith, byte 7 (omega arith), byte 8 (omega arith)))
-      (omega (arith, byte 7 (omega arith), byte 8 (omega arith), byte 9 (omega arith)))
-      (omega (arith, byte 7 (omega arith), byte 8 (omega arith), byte 9 (omega arith), byte 10 (omega arith)))
+  own p h = own-below xs bytes p h (test 0 (omega arith))
 
 -- after any low byte of L: 0, or 1 where the low byte is 0
 high-byte : (low : ℕ) → low < 256 → between 1 longest (pair low (cond (eqb low 0) 1 0)) ≡ true

@@ -1,3 +1,4 @@
 -- The heads that a share may have.
 pub mod Kind1
 pub mod Heads
+pub mod Steps

@@ -9,6 +9,7 @@ ghost use Prim.Native.Nat.{_-_, _≤_};
 ghost use lib.ListN.{length, getD};
 ghost use Rattle.letters.specs.Laid.{Laid};
 ghost use Rattle.group.specs.Ranges.{between, NodeOf};
+ghost use Rattle.heads.specs.Steps.Partly.{Kind1Fits};
 ghost use Rattle.heads.specs.Kind1.{kind1Size, kind1Record, kind1Total, kind1In, kind1Tests};
 
 pub const KIND: u8 = 1;
@@ -87,8 +88,8 @@ pub fn head_stands(head: Head, offset: usize, byte: u8) -> bool
 }
 
 // The byte at an offset of the head.
-fn head_byte(head: Head, offset: usize) -> u8
-    requires { ⌜ NodeOf (head .group) (head .node) ⌝ }
+pub fn head_byte(head: Head, offset: usize) -> u8
+    requires { ⌜ Kind1Fits head ⌝ }
     ensures { λ r. ⌜ r ≡ getD (kind1Record head) offset 0 ⌝ }
 {
     let g = head.group;

@@ -1,5 +1,6 @@
 // The heads that a share may have, of kind 1 alone yet: their bytes written, read back and tested.
 pub mod kind1;
+pub mod partly;
 
 use group::Group;
 

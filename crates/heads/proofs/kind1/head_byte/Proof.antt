@@ -1,4 +1,4 @@
--- `kind1::head_byte` meets its contract: each offset has its byte, numbers in range are bytes themselves, and what has no arm has none.
+-- `kind1::head_byte` meets its contract: each offset has its byte, numbers below 256 are bytes themselves, and what has no arm has none.
 use mathlib.Core.Path.{_≡_, sym, _∙_}
 use native.Mathlib.Omega.{arith}
 use Prim.Native.Nat.{_%_}
@@ -44,19 +44,19 @@ returns : tie.Need-returns
 returns c = search needs
 
 returns-2 : tie.Need-returns-2
-returns-2 c = let small : c .before .before .before .before .args .head .group .n % 256 ≡ c .before .before .before .before .args .head .group .n = omega (arith, c .before .before .before .before .pre, c .before .before .before .before .pre .group) in
+returns-2 c = let small : c .before .before .before .before .args .head .group .n % 256 ≡ c .before .before .before .before .args .head .group .n = omega (arith, c .before .before .before .before .pre) in
     rw (c .before .match .keys2) (c .low .ensures ∙ small)
 
 returns-3 : tie.Need-returns-3
-returns-3 c = let small : c .before .before .before .before .args .head .group .k % 256 ≡ c .before .before .before .before .args .head .group .k = omega (arith, c .before .before .before .before .pre, c .before .before .before .before .pre .group) in
+returns-3 c = let small : c .before .before .before .before .args .head .group .k % 256 ≡ c .before .before .before .before .args .head .group .k = omega (arith, c .before .before .before .before .pre) in
     rw (c .before .match .keys3) (c .low2 .ensures ∙ small)
 
 returns-4 : tie.Need-returns-4
-returns-4 c = let small : c .before .before .before .before .args .head .group .d % 256 ≡ c .before .before .before .before .args .head .group .d = omega (arith, c .before .before .before .before .pre, c .before .before .before .before .pre .group) in
+returns-4 c = let small : c .before .before .before .before .args .head .group .d % 256 ≡ c .before .before .before .before .args .head .group .d = omega (arith, c .before .before .before .before .pre) in
     rw (c .before .match .keys4) (c .low3 .ensures ∙ small)
 
 returns-5 : tie.Need-returns-5
-returns-5 c = let small : c .before .before .before .before .args .head .node % 256 ≡ c .before .before .before .before .args .head .node = omega (arith, c .before .before .before .before .pre, c .before .before .before .before .pre .group) in
+returns-5 c = let small : c .before .before .before .before .args .head .node % 256 ≡ c .before .before .before .before .args .head .node = omega (arith, c .before .before .before .before .pre) in
     rw (c .before .match .keys5) (c .low4 .ensures ∙ small)
 
 returns-6 : tie.Need-returns-6

@@ -1,0 +1,77 @@
+-- `partly::partly_in` meets its contract: every byte that is passed is as it should be, and the first that isn't is told.
+use mathlib.Core.Path.{_≡_, sym, _∙_}
+use mathlib.Core.Bool.{true}
+use mathlib.Core.Logic.{⊎-elim}
+use Prim.Native.Nat.{ℕ, _-_, _≤_, _<_}
+use native.Mathlib.Omega.{arith}
+use borrow.Author.Needs.{needs}
+use borrow.Author.Tests.{not-true, not-false}
+use Rattle.letters.proofs.Cases.{le-or-lt}
+use Rattle.layout.proofs.Judgments.{not-both}
+use Rattle.heads.specs.Kind1.{kind1Size}
+use Rattle.heads.specs.Steps.Partly.{Kind1Fits, partlyAt}
+use Rattle.heads.proofs.Answers.{affirmed, refuted}
+use Rattle.heads.proofs.partly.partly_in.Statement.{statement}
+use Rattle.heads.proofs.partly.partly_in.Tie as tie
+
+abbrev Inv-loop : tie.InvT-loop
+Inv-loop head at offset₀ offset = (1 ≤ offset) × (offset ≤ kind1Size) × Kind1Fits head × ((p : ℕ) → 1 ≤ p → p < offset → partlyAt head at p ≡ true)
+
+abbrev μ-loop : tie.MeasureT-loop
+μ-loop head at offset₀ offset = kind1Size - offset
+
+fits-requires : tie.Need-fits-requires Inv-loop μ-loop
+fits-requires c κs = search needs
+
+returns : tie.Need-returns Inv-loop μ-loop
+returns c = refuted (λ w. not-both _ (c .before .fits2 .ensures .1 (w .fits)) (not-true _ (c .if1 .taken)))
+
+loop-holds : tie.Need-loop-holds Inv-loop μ-loop
+loop-holds c = (omega arith, omega arith, c .before .fits2 .ensures .0 (not-false _ (c .if1 .left)), λ p lo hi. absurd (omega arith))
+
+byte-fits-requires : tie.Need-byte-fits-requires Inv-loop μ-loop
+byte-fits-requires c κs = c .before .loop .inv .2
+
+returns-2 : tie.Need-returns-2 Inv-loop μ-loop
+returns-2 c =
+    let l = c .before .before .before in
+    refuted (λ w. not-both _ (w .each (l .loop .offset) (l .loop .inv .0) (omega arith)) (sym (c .before .byte-fits .ensures) ∙ not-true _ (c .if2 .taken)))
+
+add-offset : tie.Need-add-offset Inv-loop μ-loop
+add-offset c = omega arith
+
+loop-less : tie.Need-loop-less Inv-loop μ-loop
+loop-less c = omega arith
+
+loop-again : tie.Need-loop-again Inv-loop μ-loop
+loop-again c =
+    let l = c .before .before .before in (
+      omega arith,
+      omega arith,
+      l .loop .inv .2,
+      λ p lo hi.
+          ⊎-elim
+          (λ last.
+          let e : p ≡ l .loop .offset = omega arith in
+          rw e (sym (c .before .byte-fits .ensures) ∙ not-false _ (c .if2 .left)))
+          (l .loop .inv .3 p lo) (le-or-lt (l .loop .offset) p),
+    )
+
+returns-3 : tie.Need-returns-3 Inv-loop μ-loop
+returns-3 c = let i = c .before .loop .inv in affirmed (record { fits = i .2; each = λ p lo hi. i .3 p lo (omega arith) })
+
+pub partly-in-spec : {M : Type 1} → statement M
+partly-in-spec =
+    tie.close
+    (tie.spec
+    Inv-loop
+    μ-loop
+    fits-requires
+    returns
+    loop-holds
+    byte-fits-requires
+    returns-2
+    add-offset
+    loop-less
+    loop-again
+    returns-3)

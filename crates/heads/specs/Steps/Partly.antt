@@ -1,0 +1,31 @@
+-- A head of which the first bytes are in, and no more: its numbers are those of these bytes with zeros after them.
+use mathlib.Core.Path.{_≡_}
+use mathlib.Core.Bool.{Bool, true, cond}
+use mathlib.Core.List.{List, _++_}
+use Prim.Native.Nat.{ℕ, _^_, _≤_, _<_}
+use lib.Dec.{ltb, eqb}
+use lib.ListN.{getD, take}
+use Rattle.heads.specs.declared.Head.{Head}
+use Rattle.heads.specs.Kind1.{kindHead, kind1Size, kind1Record, kind1In, kind1Tests}
+
+-- every number has room in its bytes
+pub record Kind1Fits (h : Head) : Type 0 where
+  pub n : h .group .n < 256
+  pub k : h .group .k < 256
+  pub d : h .group .d < 256
+  pub node : h .node < 256
+  pub l : h .group .l < 256 ^ 2
+  pub batch : h .batch < 256 ^ 4
+
+-- the byte at an offset is as it is where so many bytes are in: it passes its test, or isn't in yet and is zero
+abbrev pub partlyAt : Head → ℕ → ℕ → Bool
+partlyAt h at offset = cond (ltb offset at) (getD (kind1Tests h kindHead) offset true) (eqb (getD (kind1Record h) offset 0) 0)
+
+-- bytes that can stand, so many, tell these numbers
+pub record PartlyIn (h : Head) (at : ℕ) : Type 0 where
+  pub fits : Kind1Fits h
+  pub each : (offset : ℕ) → 1 ≤ offset → offset < kind1Size → partlyAt h at offset ≡ true
+
+-- the head's numbers once these bytes have come after its first ones
+abbrev pub headAfter : Head → ℕ → List ℕ → Head
+headAfter h at ys = kind1In (take at (kind1Record h) ++ ys)

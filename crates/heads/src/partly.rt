@@ -1,0 +1,88 @@
+// A head of which the first bytes are in, and no more: its numbers are those of these bytes with zeros after them.
+use crate::Head;
+use crate::kind1;
+ghost use mathlib.Core.Path.{_≡_};
+ghost use mathlib.Core.Bool.{true};
+ghost use mathlib.Core.List.{_++_};
+ghost use mathlib.Core.Logic.{_↔_};
+ghost use Prim.Native.Nat.{_≤_};
+ghost use lib.ListN.{getD, take};
+ghost use Rattle.heads.specs.Kind1.{kind1Size, kind1Record};
+ghost use Rattle.heads.specs.Steps.Partly.{Kind1Fits, PartlyIn, partlyAt, headAfter};
+
+// Every number has room in its bytes. (A batch number always has.)
+fn fits(head: Head) -> bool
+    ensures { λ r. ⌜ (r ≡ true) ↔ Kind1Fits head ⌝ }
+{
+    let g = head.group;
+    if 255 < g.n {
+        return false;
+    }
+    if 255 < g.k {
+        return false;
+    }
+    if 255 < g.d {
+        return false;
+    }
+    if 255 < head.node {
+        return false;
+    }
+    g.l < 65536
+}
+
+// The byte at an offset is as it is where so many bytes are in.
+fn byte_fits(head: Head, at: usize, offset: usize) -> bool
+    requires { ⌜ Kind1Fits head ⌝ }
+    ensures { λ r. ⌜ r ≡ partlyAt head at offset ⌝ }
+{
+    if offset < at {
+        return kind1::head_stands(head, offset, kind1::KIND);
+    }
+    kind1::head_byte(head, offset) == 0
+}
+
+// These can be the numbers of a head of which so many bytes are in.
+pub fn partly_in(head: Head, at: usize) -> bool
+    ensures { λ r. ⌜ (r ≡ true) ↔ PartlyIn head at ⌝ }
+{
+    if !fits(head) {
+        return false;
+    }
+    let mut offset = 1;
+    while offset < kind1::SIZE {
+        if !byte_fits(head, at, offset) {
+            return false;
+        }
+        offset += 1;
+    }
+    true
+}
+
+// The byte at an offset once these bytes have come after the first `at`; past them it counts as 0.
+fn byte_after(head: Head, at: usize, bytes: &[u8], offset: usize) -> u8
+    requires { ⌜ Kind1Fits head × (at ≤ kind1Size) ⌝ }
+    ensures { λ r. ⌜ r ≡ getD (take at (kind1Record head) ++ now (bytes .entry)) offset 0 ⌝ }
+{
+    if offset < at {
+        return kind1::head_byte(head, offset);
+    }
+    let i = offset - at;
+    if i < bytes.len() {
+        return bytes[i];
+    }
+    0
+}
+
+// The head once these bytes have come after its first `at`.
+pub fn head_after(head: Head, at: usize, bytes: &[u8]) -> Head
+    requires { ⌜ Kind1Fits head × (at ≤ kind1Size) ⌝ }
+    ensures { λ r. ⌜ r ≡ headAfter head at (now (bytes .entry)) ⌝ }
+{
+    let mut first = [0u8; kind1::SIZE];
+    let mut offset = 0;
+    while offset < kind1::SIZE {
+        first[offset] = byte_after(head, at, bytes, offset);
+        offset += 1;
+    }
+    kind1::head_in(&first)
+}
