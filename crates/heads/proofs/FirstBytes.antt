@@ -16,7 +16,7 @@ use Rattle.layout.proofs.LaidOut.{append-at-left, append-at-right}
 use Rattle.heads.specs.declared.Head.{Head}
 use Rattle.heads.specs.Kind1.{kindHead, kind1Size, kind1Record, Kind1Numbers, kind1In, kind1Tests, kind1}
 use Rattle.heads.specs.Steps.Partly.{Kind1Fits, PartlyIn, partlyAt, headAfter}
-use Rattle.heads.proofs.Kind1Laws.{each-offset, told-by-bytes, same-numbers, any-byte, own-numbers, own-below}
+use Rattle.heads.proofs.Kind1Laws.{each-offset, tests-hold, told-by-bytes, same-numbers, any-byte, own-numbers, own-below}
 
 -- numbers in range have room in their bytes
 pub fits-in-range : (h : Head) → Kind1Numbers h → Kind1Fits h
@@ -84,6 +84,10 @@ module _ (h : Head) (at : ℕ) (le : at ≤ kind1Size) (w : PartlyIn h at) where
             (each-offset (λ p. getD (kind1Record h) p 0 < 256) (omega arith) (w .fits .n) (w .fits .k) (w .fits .d) (w .fits .node)
             (omega arith) (omega arith) (omega arith) (omega arith) (omega arith) (omega arith) i (omega arith));
       }
+
+-- numbers in range are those of a head that is all in
+pub all-in : (h : Head) → Kind1Numbers h → PartlyIn h kind1Size
+all-in h w = record { fits = fits-in-range h w; each = λ p lo hi. simp (lt-ltb p kind1Size hi) (tests-hold h w p hi) }
 
 -- and from bytes to numbers
 module _ (xs : List ℕ) (bytes : Bytes xs) (few : length xs ≤ kind1Size) (test : Passes kind1 xs (length xs)) where

@@ -103,7 +103,7 @@ told : (h : Head) → Kind1Numbers h → (rest : List ℕ) → kind1In (kind1Rec
 told h w rest = told-by-bytes h (omega (arith, w .node .group)) (w .batch) rest
 
 -- and pass their tests
-tests-hold : (h : Head) → Kind1Numbers h → (p : ℕ) → p < kind1Size → getD (kind1Tests h kindHead) p true ≡ true
+pub tests-hold : (h : Head) → Kind1Numbers h → (p : ℕ) → p < kind1Size → getD (kind1Tests h kindHead) p true ≡ true
 tests-hold h w =
     let g = w .node .group in
     each-offset (λ p. getD (kind1Tests h kindHead) p true ≡ true)

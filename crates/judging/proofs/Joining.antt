@@ -1,43 +1,43 @@
 -- Bytes that come after others: where the search stops in them, from the index that they begin at, it stops in all of them.
-use mathlib.Core.Path.{_≡_, sym, ap, subst, _∙_}
-use mathlib.Core.Bool.{Bool, true}
+use mathlib.Core.Path.{_≡_, refl, sym, ap, subst, _∙_}
+use mathlib.Core.Bool.{true}
 use mathlib.Core.List.{List, [], _++_}
 use mathlib.Core.Logic.{⊎-elim}
-use Prim.Native.Nat.{ℕ, suc, _+_, _-_, _*_, _/_, _%_, _≤_, _<_}
+use Prim.Native.Nat.{ℕ, suc, _+_, _-_, _/_, _%_, _≤_, _<_}
 use native.Mathlib.Omega.{arith}
 use lib.ListN.{length, getD, length-append}
 use lib.Seq.{getD-append-add}
 use Rattle.letters.proofs.Cases.{le-or-lt}
 use Rattle.records.specs.Records.{blockSize}
-use Rattle.records.specs.Steps.Places.{standsIn, recordAt, offsetAt}
+use Rattle.records.specs.Steps.Places.{recordStands, standsIn}
 use Rattle.records.proofs.Places.{head-at, stands-placed}
 use Rattle.layout.specs.Layout.{totalIn}
 use Rattle.layout.specs.Steps.Stands.{stands}
-use Rattle.heads.specs.Kind1.{kind1Size}
+use Rattle.layout.proofs.Stands.{stands-head, stands-past}
+use Rattle.heads.specs.declared.Head.{Head}
+use Rattle.heads.specs.Kind1.{kind1Size, kind1Tests}
 use Rattle.heads.specs.Heads.{heads}
 use Rattle.heads.proofs.Kind1Laws.{one-kind}
 use Rattle.judging.specs.Steps.Search.{standsAt, Stops, StopsFrom}
 
+-- the test of a byte in the head, and past it
+module _ (h : Head) (p byte : ℕ) where
+  pub at-head : p < kind1Size → standsAt h p byte ≡ getD (kind1Tests h byte) p true
+  unfolding standsAt standsIn
+  at-head l = rw (head-at kind1Size p l .0, head-at kind1Size p l .1)
+
+  pub at-past : kind1Size ≤ p → standsAt h p byte ≡ recordStands (heads .total h) ((p - kind1Size) / blockSize) ((p - kind1Size) % blockSize) byte
+  unfolding standsAt standsIn
+  at-past l =
+      stands-placed kind1Size (kind1Tests h byte) (heads .total h) (suc ((p - kind1Size) / blockSize)) ((p - kind1Size) % blockSize) p byte (omega arith)
+      (omega arith)
+
 -- whether a byte stands is told by the head, the index and the byte, since no test but the first looks at the kind
 pub stands-at : (zs : List ℕ) (p : ℕ) → stands heads zs p ≡ standsAt (heads .headIn zs) p (getD zs p 0)
-unfolding stands standsAt standsIn
-stands-at zs p = ⊎-elim past within (le-or-lt kind1Size p)
-  where
-    within : p < kind1Size → stands heads zs p ≡ standsAt (heads .headIn zs) p (getD zs p 0)
-    within h = rw (head-at kind1Size p h .0, head-at kind1Size p h .1) (sym (one-kind (heads .headIn zs) zs p))
-
-    -- past the head no test of its bytes is asked for
-    other : (tests others : List Bool) → kind1Size ≤ p
-        → standsIn tests (totalIn heads zs) (recordAt kind1Size p) (offsetAt kind1Size p) (getD zs p 0)
-        ≡ standsIn others (totalIn heads zs) (recordAt kind1Size p) (offsetAt kind1Size p) (getD zs p 0)
-    other tests others h =
-        let here : p ≡ kind1Size + (p - kind1Size) / blockSize * blockSize + (p - kind1Size) % blockSize = omega arith in
-        stands-placed kind1Size tests (totalIn heads zs) (suc ((p - kind1Size) / blockSize)) ((p - kind1Size) % blockSize) p (getD zs p 0) (omega arith) here
-        ∙ sym
-        (stands-placed kind1Size others (totalIn heads zs) (suc ((p - kind1Size) / blockSize)) ((p - kind1Size) % blockSize) p (getD zs p 0) (omega arith) here)
-
-    past : kind1Size ≤ p → stands heads zs p ≡ standsAt (heads .headIn zs) p (getD zs p 0)
-    past h = other _ _ h
+stands-at zs p =
+    ⊎-elim (λ past. stands-past heads zs kind1Size (totalIn heads zs) refl refl p past ∙ sym (at-past (heads .headIn zs) p (getD zs p 0) past))
+    (λ within. stands-head heads zs p within ∙ sym (at-head (heads .headIn zs) p (getD zs p 0) within ∙ one-kind (heads .headIn zs) zs p))
+    (le-or-lt kind1Size p)
 
 module _ (xs ys : List ℕ) (q : ℕ) where
   -- of the bytes that come after others

@@ -39,7 +39,7 @@ fn bytes_to_see(front: usize, letters: usize) -> usize
 }
 
 // What bytes are whose first wrong one is at this index: all of them stand if there is none.
-fn judged(front: usize, head: Head, letters: usize, at: usize, count: usize) -> Judgment
+pub fn judged(front: usize, head: Head, letters: usize, at: usize, count: usize) -> Judgment
     requires { ⌜ (front ≤ blockSize) × (letters < totalLimit) ⌝ }
     ensures { λ r. ⌜ r ≡ judgmentAt front head letters at count ⌝ }
 {

@@ -44,7 +44,7 @@ end-is-byte T (suc (suc (suc zero))) h = omega arith
 end-is-byte T (suc (suc (suc (suc zero)))) h = omega arith
 end-is-byte T (suc (suc (suc (suc (suc j))))) h = absurd (omega arith)
 
-bytes-next : (xs : List ℕ) (byte : ℕ) → Bytes xs → byte < 256 → Bytes (xs ++ byte ∷ [])
+pub bytes-next : (xs : List ℕ) (byte : ℕ) → Bytes xs → byte < 256 → Bytes (xs ++ byte ∷ [])
 bytes-next xs byte bytes h =
     record {
       below =
@@ -57,7 +57,7 @@ bytes-next xs byte bytes h =
     }
 
 -- what can stand next
-abbrev Next : {Head : Type 0} → Layout Head → List ℕ → Type 0
+abbrev pub Next : {Head : Type 0} → Layout Head → List ℕ → Type 0
 Next y xs = (byte : ℕ) × (byte < 256) × (stands y (xs ++ byte ∷ []) (length xs) ≡ true)
 
 module _ {Head : Type 0} (y : Layout Head) (law : Lawful y) where
@@ -83,7 +83,7 @@ module _ {Head : Type 0} (y : Layout Head) (law : Lawful y) where
     nonempty : 1 ≤ length xs
     nonempty = omega (arith, law .some (getD xs 0 0))
 
-    next-in-records : (H T : ℕ) → sizeIn y xs ≡ H → totalIn y xs ≡ T → length xs < sizeFor H T → Next y xs
+    pub next-in-records : (H T : ℕ) → sizeIn y xs ≡ H → totalIn y xs ≡ T → length xs < sizeFor H T → Next y xs
     next-in-records H T eh et h =
         elim (place-of H T (length xs)) [
           | head q ↦ absurd (omega (arith, eh))

@@ -122,16 +122,16 @@ module _ {Head : Type 0} (y : Layout Head) (law : Lawful y) where
       all [] h = append-nil xs
       all (y ∷ ys) h = absurd (omega arith)
 
-  stands-take : (xs : List ℕ) (q p : ℕ) → p < q → stands y (take q xs) p ≡ stands y xs p
+  pub stands-take : (xs : List ℕ) (q p : ℕ) → p < q → stands y (take q xs) p ≡ stands y xs p
   stands-take xs q p h = same-stands y law (take q xs) xs p (λ i l. getD-take q xs i 0 (omega arith))
 
-  accepted-take : (xs : List ℕ) (q : ℕ) → q ≤ length xs → ((p : ℕ) → p < q → stands y xs p ≡ true) → Accepted y (take q xs)
+  pub accepted-take : (xs : List ℕ) (q : ℕ) → q ≤ length xs → ((p : ℕ) → p < q → stands y xs p ≡ true) → Accepted y (take q xs)
   accepted-take xs q h a p l = let within : p < q = omega (arith, length-take-le q xs h) in stands-take xs q p within ∙ a p within
 
   pub stands-before : (xs : List ℕ) (q : ℕ) → q ≤ length xs → CanStand y (take q xs) → (p : ℕ) → p < q → stands y xs p ≡ true
   stands-before xs q h s p l = sym (stands-take xs q p l) ∙ accepted-if (take q xs) s p (omega (arith, length-take-le q xs h))
 
-  bytes-take : (xs : List ℕ) (q : ℕ) → q ≤ length xs → Bytes xs → Bytes (take q xs)
+  pub bytes-take : (xs : List ℕ) (q : ℕ) → q ≤ length xs → Bytes xs → Bytes (take q xs)
   bytes-take xs q h b =
       record {
         below =

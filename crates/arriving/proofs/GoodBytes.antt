@@ -1,0 +1,72 @@
+-- How many bytes can stand: the count in a state is where the search stops, and so the place of document 01's first wrong byte.
+use mathlib.Core.Path.{_≡_, refl}
+use mathlib.Core.Bool.{Bool, true, false, cond}
+use mathlib.Core.List.{List}
+use mathlib.Core.Logic.{⊎-elim}
+use Prim.Native.Nat.{ℕ, zero, suc, _+_, _≤_, _<_}
+use native.Mathlib.Omega.{arith}
+use lib.ListN.{length, take}
+use Rattle.letters.specs.Lanes.{Bytes}
+use Rattle.letters.proofs.Cases.{le-or-lt}
+use Rattle.layout.specs.Judgment.{CanStand, Offends}
+use Rattle.layout.specs.Steps.Stands.{stands}
+use Rattle.layout.proofs.Judgments.{not-both, accepted-take, bytes-take, offends-if}
+use Rattle.layout.proofs.Completing.{can-stand}
+use Rattle.heads.specs.Heads.{heads}
+use Rattle.heads.proofs.Kind1Laws.{lawful}
+use Rattle.judging.specs.Steps.Search.{Stops}
+use Rattle.arriving.specs.States.{upTo, goodBytes}
+
+-- from i on, so many at most, up to q
+record Run (f : ℕ → Bool) (i count q : ℕ) : Type 0 where
+  from : i ≤ q
+  until : q ≤ i + count
+  before : (p : ℕ) → i ≤ p → p < q → f p ≡ true
+  stop : q < i + count → f q ≡ false
+
+runs : (f : ℕ → Bool) (i count : ℕ) → Run f i count (upTo f i count)
+unfolding upTo
+runs f i zero =
+    record { from = omega arith; until = omega arith; before = λ p lo hi. absurd (omega arith); stop = λ h. absurd (omega arith) }
+runs f i (suc count) = by (f i) refl (runs f (suc i) count)
+  where
+    by : (b : Bool) → f i ≡ b → Run f (suc i) count (upTo f (suc i) count) → Run f i (suc count) (cond b (upTo f (suc i) count) i)
+    by true e w =
+        record {
+          from = omega (arith, w .from);
+          until = omega (arith, w .until);
+          before = λ p lo hi. ⊎-elim (λ later. w .before p later hi) (λ now. let here : p ≡ i = omega arith in rw here e) (le-or-lt (suc i) p);
+          stop = λ h. w .stop (omega arith);
+        }
+    by false e w =
+        record { from = omega arith; until = omega arith; before = λ p lo hi. absurd (omega arith); stop = λ h. e }
+
+pub good-stops : (xs : List ℕ) → Stops xs (goodBytes xs)
+good-stops xs =
+    let w = runs (stands heads xs) 0 (length xs) in
+    record { within = omega (arith, w .until); before = λ p h. w .before p (omega arith) h; wrong = λ h. w .stop (omega arith) }
+
+-- the search stops at one place
+pub stops-once : (xs : List ℕ) (q q′ : ℕ) → Stops xs q → Stops xs q′ → q ≡ q′
+stops-once xs q q′ s s′ =
+    ⊎-elim
+    (λ le. ⊎-elim (λ ge. omega arith) (λ lt. absurd (two q q′ s s′ lt)) (le-or-lt q′ q))
+    (λ lt. absurd (two q′ q s′ s lt))
+    (le-or-lt q q′)
+  where
+    two : (q q′ : ℕ) → Stops xs q → Stops xs q′ → q < q′ → ⊥
+    two q q′ s s′ lt = not-both (stands heads xs q) (s′ .before q lt) (s .wrong (omega (arith, s′ .within)))
+
+pub good-is : (xs : List ℕ) (q : ℕ) → Stops xs q → goodBytes xs ≡ q
+good-is xs q s = stops-once xs (goodBytes xs) q (good-stops xs) s
+
+-- In document 01's words: the bytes counted can stand, and where there is one more, it is the first that no share has there.
+pub good-stand : (xs : List ℕ) → Bytes xs → CanStand heads (take (goodBytes xs) xs)
+good-stand xs bytes =
+    let s = good-stops xs in
+    can-stand heads lawful (take (goodBytes xs) xs) (bytes-take heads lawful xs (goodBytes xs) (s .within) bytes)
+    (accepted-take heads lawful xs (goodBytes xs) (s .within) (s .before))
+
+pub next-offends : (xs : List ℕ) → Bytes xs → goodBytes xs < length xs → Offends heads xs (goodBytes xs)
+next-offends xs bytes h =
+    let s = good-stops xs in offends-if heads lawful xs (goodBytes xs) bytes h (record { before = s .before; wrong = s .wrong h })

@@ -1,0 +1,7 @@
+-- Which bytes lead to a state, and what is told from it.
+pub mod GoodBytes
+pub mod BytesBehind
+pub mod Led
+pub mod Taking
+pub mod Telling
+pub mod Near

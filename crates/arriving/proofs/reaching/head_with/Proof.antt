@@ -1,0 +1,19 @@
+-- `reaching::head_with` meets its contract: a head that is all in grows no more.
+use mathlib.Core.Path.{sym}
+use native.Mathlib.Omega.{arith}
+use Rattle.arriving.proofs.BytesBehind.{whole-grown}
+use borrow.Author.Needs.{needs}
+use Rattle.arriving.proofs.reaching.head_with.Statement.{statement}
+use Rattle.arriving.proofs.reaching.head_with.Tie as tie
+
+returns : tie.Need-returns
+returns c = let s = c .before .before in sym (whole-grown (s .args .head) (s .args .at) (s .pre .whole (c .if1 .taken)) (c .if1 .taken) _)
+
+head-after-requires : tie.Need-head-after-requires
+head-after-requires c κs = (c .before .before .pre .partly (c .if1 .left) .fits, omega arith)
+
+returns-2 : tie.Need-returns-2
+returns-2 c = search needs
+
+pub head-with-spec : {M : Type 1} → statement M
+head-with-spec = tie.close (tie.spec returns head-after-requires returns-2)

@@ -1,0 +1,168 @@
+// A share that is judged while it arrives: a small state takes bytes as they come, however they are cut, and tells at any moment what all
+// bytes so far are. It keeps no letters.
+mod reaching;
+
+use group::Refusal;
+use heads::Head;
+use heads::kind1;
+use judging::Judgment;
+use judging::search;
+use records::sizes;
+ghost use mathlib.Core.Path.{_≡_};
+ghost use mathlib.Core.Bool.{true};
+ghost use mathlib.Core.List.{[]};
+ghost use mathlib.Core.Logic.{_↔_};
+ghost use Prim.Native.Nat.{_^_, _<_};
+ghost use Rattle.judging.specs.Judging.{judgmentNumber, headOf};
+ghost use Rattle.arriving.specs.States.{headSoFar, stateWith, stateOf, Leads};
+ghost use Rattle.arriving.specs.Calls.{Takes, JudgesState, Announces, comingNumber, comingHead, comingBytes};
+
+// The state. It is a function of all bytes so far, `stateOf` in specs/, and of nothing else.
+pub struct Arriving {
+    // How many bytes can stand so far. Once one couldn't, this is its index, and nothing is counted on.
+    pub at: usize,
+    // 1 once a byte couldn't stand, else 0.
+    pub wrong: usize,
+    // The numbers of the head, as far as their bytes are in and can stand; a byte that isn't in counts as 0.
+    pub n: usize,
+    pub k: usize,
+    pub d: usize,
+    pub node: usize,
+    pub l: usize,
+    pub batch: usize,
+}
+
+// The share that is coming, as far as its head tells.
+pub enum Coming {
+    // Its head, and how many bytes it will have.
+    Share(Head, usize),
+    // 7: the head isn't in. 8: the bytes so far are no beginning of a share.
+    Refused(Refusal),
+}
+
+// The state of no bytes.
+pub fn start() -> Arriving
+    ensures { λ r. ⌜ r ≡ stateOf [] ⌝ }
+{
+    Arriving {
+        at: 0,
+        wrong: 0,
+        n: 0,
+        k: 0,
+        d: 0,
+        node: 0,
+        l: 0,
+        batch: 0,
+    }
+}
+
+// A state from its head.
+fn state_with(at: usize, wrong: usize, head: Head) -> Arriving
+    ensures { λ r. ⌜ r ≡ stateWith at wrong head ⌝ }
+{
+    let g = head.group;
+    Arriving {
+        at,
+        wrong,
+        n: g.n,
+        k: g.k,
+        d: g.d,
+        node: head.node,
+        l: g.l,
+        batch: head.batch as usize,
+    }
+}
+
+impl Arriving {
+    // The head, as far as it is in.
+    fn head_so_far(self) -> Head
+        requires { ⌜ self .batch < 2 ^ 32 ⌝ }
+        ensures { λ r. ⌜ r ≡ headSoFar self ⌝ }
+    {
+        let group = group::of(self.n, self.k, self.d, self.l);
+        Head {
+            group,
+            node: self.node,
+            batch: self.batch as u32,
+        }
+    }
+
+    // Some bytes lead to this state.
+    pub fn reached(self) -> bool
+        ensures { λ r. ⌜ (r ≡ true) ↔ Leads self ⌝ }
+    {
+        if 4294967295 < self.batch {
+            return false;
+        }
+        let head = self.head_so_far();
+        if !reaching::head_at(head, self.at) {
+            return false;
+        }
+        if self.wrong == 0 {
+            return true;
+        }
+        if 1 < self.wrong {
+            return false;
+        }
+        reaching::can_be_wrong(head, self.at)
+    }
+
+    // The state after these bytes. One to which no bytes lead stays as it is.
+    pub fn after(self, bytes: &[u8]) -> Arriving
+        ensures { λ r. ⌜ Takes self (now (bytes .entry)) r ⌝ }
+    {
+        if !self.reached() {
+            return self;
+        }
+        if 0 < self.wrong {
+            return self;
+        }
+        let at = self.at;
+        let head = self.head_so_far();
+        let with = reaching::head_with(head, at, bytes);
+        let good = search::first_wrong(bytes, at, with, kind1::total(with));
+        let end = at + good;
+        if good == bytes.len() {
+            return state_with(end, 0, with);
+        }
+        let before = reaching::head_with(head, at, &bytes[..good]);
+        state_with(end, 1, before)
+    }
+
+    // What all bytes so far are: a share and its head, the beginning of one (7), or neither (8). A state to which no bytes lead is judged 8.
+    pub fn judge(self) -> Judgment
+        ensures { λ r. ⌜ JudgesState self (judgmentNumber r) (headOf r) ⌝ }
+    {
+        if !self.reached() {
+            return Judgment::Refused(Refusal::Malformed);
+        }
+        let head = self.head_so_far();
+        let letters = kind1::total(head);
+        judging::judged(kind1::SIZE, head, letters, self.at, self.at + self.wrong)
+    }
+
+    // Whose share is coming and how many bytes it will have, as soon as its head is in, complete or not.
+    pub fn coming(self) -> Coming
+        ensures { λ r. ⌜ Announces self (comingNumber r) (comingHead r) (comingBytes r) ⌝ }
+    {
+        if !self.reached() {
+            return Coming::Refused(Refusal::Malformed);
+        }
+        if 0 < self.wrong {
+            return Coming::Refused(Refusal::Malformed);
+        }
+        if self.at < kind1::SIZE {
+            return Coming::Refused(Refusal::Unfinished);
+        }
+        let head = self.head_so_far();
+        let bytes = sizes::size_for(kind1::SIZE, kind1::total(head));
+        Coming::Share(head, bytes)
+    }
+}
+
+// Takes bytes, zero or many, into the state where it lies.
+pub fn take(state: &mut Arriving, bytes: &[u8])
+    ensures { λ _. ⌜ Takes (now (state .entry)) (now (bytes .entry)) (now (state .exit)) ⌝ }
+{
+    *state = state.after(bytes);
+}
