@@ -5,3 +5,5 @@ pub mod Led
 pub mod Taking
 pub mod Telling
 pub mod Near
+pub mod Meaning
+pub mod Outcomes

@@ -40,22 +40,6 @@ pub enum Coming {
     Refused(Refusal),
 }
 
-// The state of no bytes.
-pub fn start() -> Arriving
-    ensures { λ r. ⌜ r ≡ stateOf [] ⌝ }
-{
-    Arriving {
-        at: 0,
-        wrong: 0,
-        n: 0,
-        k: 0,
-        d: 0,
-        node: 0,
-        l: 0,
-        batch: 0,
-    }
-}
-
 // A state from its head.
 fn state_with(at: usize, wrong: usize, head: Head) -> Arriving
     ensures { λ r. ⌜ r ≡ stateWith at wrong head ⌝ }
@@ -74,6 +58,22 @@ fn state_with(at: usize, wrong: usize, head: Head) -> Arriving
 }
 
 impl Arriving {
+    // The state of no bytes.
+    pub fn start() -> Arriving
+        ensures { λ r. ⌜ r ≡ stateOf [] ⌝ }
+    {
+        Arriving {
+            at: 0,
+            wrong: 0,
+            n: 0,
+            k: 0,
+            d: 0,
+            node: 0,
+            l: 0,
+            batch: 0,
+        }
+    }
+
     // The head, as far as it is in.
     fn head_so_far(self) -> Head
         requires { ⌜ self .batch < 2 ^ 32 ⌝ }

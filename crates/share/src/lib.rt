@@ -1,7 +1,10 @@
-// A node's packets as stored bytes: the share, written, judged and read.
+// A node's packets as stored bytes: the share, written, judged, also while it arrives, and read.
 mod reading;
 mod writing;
 
+pub use arriving::Arriving;
+pub use arriving::Coming;
+pub use arriving::take;
 use group::Answer;
 use group::Check;
 use group::Group;
