@@ -72,7 +72,7 @@ module _ (s : Arriving) where
   abbrev told : Judgment
   told = judgmentAt kind1Size (headSoFar s) (heads .total (headSoFar s)) (s .at) (s .at + s .wrong)
 
-  same-number : {n n′ : ℕ} {h h′ : Head} → JudgesState s n h → JudgesState s n′ h′ → (n ≡ n′) × (h ≡ h′)
+  pub same-number : {n n′ : ℕ} {h h′ : Head} → JudgesState s n h → JudgesState s n′ h′ → (n ≡ n′) × (h ≡ h′)
   same-number (JudgesState.led xs bytes e n h j) (JudgesState.led xs′ bytes′ e′ n′ h′ j′) =
       let a = same-judging j (of-bytes s _ refl told refl xs bytes e) in
       let b = same-judging j′ (of-bytes s _ refl told refl xs′ bytes′ e′) in
@@ -129,7 +129,7 @@ module _ (s : Arriving) where
       (λ some. both-are (wrong x some led) (wrong y some led))
       (eq-or-ne (s .wrong) 0)
 
-  same-coming : {n c n′ c′ : ℕ} {h h′ : Head} → Announces s n h c → Announces s n′ h′ c′ → Is n h c n′ h′ c′
+  pub same-coming : {n c n′ c′ : ℕ} {h h′ : Head} → Announces s n h c → Announces s n′ h′ c′ → Is n h c n′ h′ c′
   same-coming (Announces.known xs bytes e long h ys letters share) y = alike (Announces.known xs bytes e long h ys letters share) y (xs, bytes, e)
   same-coming (Announces.early xs bytes e few stand) y = alike (Announces.early xs bytes e few stand) y (xs, bytes, e)
   same-coming (Announces.malformed xs bytes e bad) y = alike (Announces.malformed xs bytes e bad) y (xs, bytes, e)

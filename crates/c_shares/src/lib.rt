@@ -29,7 +29,7 @@ pub extern "C" fn dulvaspen_write_share(
 }
 
 // Puts a head's six numbers.
-fn put_head(head: Head, into: &mut [usize])
+pub fn put_head(head: Head, into: &mut [usize])
     requires { ⌜ length (now into) ≡ 6 ⌝ }
     ensures { λ r. ⌜ now (into .exit) ≡ six head ⌝ }
 {

@@ -1,0 +1,2 @@
+-- What the exported calls on a share that arrives promise.
+pub mod Arrivals

@@ -1,0 +1,116 @@
+// A share that arrives, for C: the state is an array of eight numbers that the caller owns, and any numbers may stand in it.
+use arriving::Arriving;
+use arriving::Coming;
+use judging::Judgment;
+ghost use mathlib.Core.Path.{_≡_};
+ghost use lib.ListN.{length};
+ghost use Rattle.c_arriving.specs.Arrivals.{stateIn, eight, StartsWords, TakesWords, JudgesWords, AnnouncesWords};
+
+// The numbers of a state.
+const WORDS: usize = 8;
+
+// The state that eight numbers are.
+fn state_in(words: &[usize]) -> Arriving
+    requires { ⌜ length (now words) ≡ 8 ⌝ }
+    ensures { λ r. ⌜ r ≡ stateIn (now (words .entry)) ⌝ }
+{
+    Arriving {
+        at: words[0],
+        wrong: words[1],
+        n: words[2],
+        k: words[3],
+        d: words[4],
+        node: words[5],
+        l: words[6],
+        batch: words[7],
+    }
+}
+
+// Puts a state's eight numbers.
+fn put_state(state: Arriving, into: &mut [usize])
+    requires { ⌜ length (now into) ≡ 8 ⌝ }
+    ensures { λ r. ⌜ now (into .exit) ≡ eight state ⌝ }
+{
+    into[0] = state.at;
+    into[1] = state.wrong;
+    into[2] = state.n;
+    into[3] = state.k;
+    into[4] = state.d;
+    into[5] = state.node;
+    into[6] = state.l;
+    into[7] = state.batch;
+}
+
+// The state of no bytes. Refusal: 5.
+#[no_mangle]
+pub extern "C" fn dulvaspen_arriving_start(state: &mut [usize]) -> usize
+    ensures { λ r. ⌜ StartsWords (now (state .entry)) r (now (state .exit)) ⌝ }
+{
+    if state.len() != WORDS {
+        return 5;
+    }
+    put_state(Arriving::start(), state);
+    0
+}
+
+// Takes bytes, zero or many, into the state. It doesn't judge. Refusal: 5.
+#[no_mangle]
+pub extern "C" fn dulvaspen_arriving_take(state: &mut [usize], bytes: &[u8]) -> usize
+    ensures { λ r. ⌜ TakesWords (now (state .entry)) (now (bytes .entry)) r (now (state .exit)) ⌝ }
+{
+    if state.len() != WORDS {
+        return 5;
+    }
+    let before = state_in(state);
+    let after = before.after(bytes);
+    put_state(after, state);
+    0
+}
+
+// What all bytes so far are. Refusals: 5, then 7 and 8, and then 6 for a head that has not six numbers.
+#[no_mangle]
+pub extern "C" fn dulvaspen_arriving_judge(state: &[usize], head: &mut [usize]) -> usize
+    ensures { λ r. ⌜ JudgesWords (now (state .entry)) (now (head .entry)) r (now (head .exit)) ⌝ }
+{
+    if state.len() != WORDS {
+        return 5;
+    }
+    let so_far = state_in(state);
+    match so_far.judge() {
+        Judgment::Complete(found) => {
+            if head.len() != 6 {
+                return 6;
+            }
+            c_shares::put_head(found, head);
+            0
+        }
+        Judgment::Refused(refusal) => group::refusal_number(refusal),
+    }
+}
+
+// Whose share is coming and how many bytes it will have, as soon as its head is in. Refusals: 5, then 7 while the head isn't in and 8 as
+// the judge, and then 6 for a head that has not six numbers.
+#[no_mangle]
+pub extern "C" fn dulvaspen_arriving_head(
+    state: &[usize],
+    head: &mut [usize],
+    bytes: &mut usize,
+) -> usize
+    ensures { λ r. ⌜ AnnouncesWords (now (state .entry)) (now (head .entry)) (now (bytes .entry)) r (now (head .exit)) (now (bytes .exit)) ⌝ }
+{
+    if state.len() != WORDS {
+        return 5;
+    }
+    let so_far = state_in(state);
+    match so_far.coming() {
+        Coming::Share(found, count) => {
+            if head.len() != 6 {
+                return 6;
+            }
+            c_shares::put_head(found, head);
+            *bytes = count;
+            0
+        }
+        Coming::Refused(refusal) => group::refusal_number(refusal),
+    }
+}
