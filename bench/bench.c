@@ -17,7 +17,7 @@
 #endif
 
 static uint8_t file[1 << 20], got[1 << 20], want[1 << 20], input[1 << 20], node_packets[17][1 << 17], share[1 << 17];
-static uint64_t held[17], count_ours, count_plain, head_ours[6], head_plain[6];
+static uint64_t held[17], count_ours, count_plain, head_ours[6], head_plain[6], state[DULVASPEN_ARRIVING_WORDS];
 static group g;
 
 static void stop(const char *what, uint64_t r) { fprintf(stderr, "bench: %s went wrong (%llu)\n", what, (unsigned long long)r); exit(1); }
@@ -97,18 +97,34 @@ static void repair(void) {
     compare("repair", g.d * length, count_ours);
 }
 
-/* The two judges must agree on every cut of a share and on every byte of it that is changed. */
+/* Judges a share that comes in bursts of so many bytes. */
+static uint64_t arrive(uint64_t bytes, uint64_t burst) {
+    uint64_t words = DULVASPEN_ARRIVING_WORDS, r = dulvaspen_arriving_start(state, words);
+    for (uint64_t at = 0; at < bytes; at += burst) r |= dulvaspen_arriving_take(state, words, share + at, bytes - at < burst ? bytes - at : burst);
+    return r | dulvaspen_arriving_judge(state, words, head_ours, 6);
+}
+
+/* The judges must agree on every cut of a share and on every byte of it that is changed. */
 static void damage(uint64_t bytes) {
     for (uint64_t cut = 0; cut <= bytes; cut++)
-        if (dulvaspen_judge_share(share, cut, head_ours, 6) != plain_judge(share, cut, head_plain)) stop("judging a cut share", cut);
+        if (dulvaspen_judge_share(share, cut, head_ours, 6) != plain_judge(share, cut, head_plain) || arrive(cut, 7) != plain_judge(share, cut, head_plain))
+            stop("judging a cut share", cut);
     for (uint64_t at = 0; at <= bytes; at++)
         for (int change = 1; change < 256; change <<= 1) {
             share[at] ^= (uint8_t)change;
             uint64_t whole = at < bytes ? bytes : bytes + 1;
-            if (dulvaspen_judge_share(share, whole, head_ours, 6) != plain_judge(share, whole, head_plain)) stop("judging a changed share", at);
+            if (dulvaspen_judge_share(share, whole, head_ours, 6) != plain_judge(share, whole, head_plain) || arrive(whole, 1 + at) != plain_judge(share, whole, head_plain))
+                stop("judging a changed share", at);
             share[at] ^= (uint8_t)change;
         }
 }
+
+/* A share in bursts, beside the library's own judge of all its bytes. */
+#define ARRIVING(NAME, BURST) do { \
+    MEASURE(NAME, "ours", got, bytes, arrive(bytes, BURST)); \
+    MEASURE(NAME, "judge", want, bytes, dulvaspen_judge_share(share, bytes, head_plain, 6)); \
+    if (memcmp(head_ours, head_plain, sizeof head_ours)) stop(NAME, 98); \
+    compare(NAME, bytes, 0); } while (0)
 
 static void shares(void) {
     uint64_t node = g.n / 2, bytes;
@@ -125,6 +141,10 @@ static void shares(void) {
     MEASURE("judge", "plain", want, bytes, plain_judge(share, bytes, head_plain));
     if (memcmp(head_ours, head_plain, sizeof head_ours)) stop("judge", 98);
     compare("judge", bytes, 0);
+    ARRIVING("arriving-at-once", bytes);
+    ARRIVING("arriving-by-4096", 4096);
+    ARRIVING("arriving-by-64", 64);
+    ARRIVING("arriving-by-1", 1);
     if (g.l == 64) damage(bytes);
 }
 

@@ -64,8 +64,8 @@
 /* The version of this header and of the library that it was installed with. MAJOR rises where a call or a number changes its meaning, MINOR
  * where something is added. */
 #define DULVASPEN_VERSION_MAJOR 1
-#define DULVASPEN_VERSION_MINOR 0
-#define DULVASPEN_VERSION "1.0"
+#define DULVASPEN_VERSION_MINOR 1
+#define DULVASPEN_VERSION "1.1"
 
 /* The most that any allowed numbers give, for callers with fixed buffers. A call is still lent the exact length, so the first so many letters
  * of such a buffer. The file is that of k = d = 15; packets, piece for a repair and share are those of node 16 with d = 15; all with L = 4,096. */
@@ -76,6 +76,7 @@
 #define DULVASPEN_MOST_PIECE 4306      /* L' = 4,096 + 15 * 14, one helper's piece */
 #define DULVASPEN_MOST_SHARE 65666     /* bytes: 11 + 65 * 1,010 + 5 */
 #define DULVASPEN_HEAD_NUMBERS 6       /* n, k, d, node, L, batch */
+#define DULVASPEN_ARRIVING_WORDS 8     /* the state of a share that arrives */
 
 #ifdef __cplusplus
 extern "C" {
@@ -152,6 +153,40 @@ uint64_t dulvaspen_read_share(const uint8_t *share, uint64_t share_len, uint8_t 
 /* Judges any bytes without copying letters: 0 and the head for a share, 7 for the beginning of one, 8 for neither. head_len must be 6
  * (else 6). A share that was cut short, even by one byte, is never 0. Refusals: 7, 8, then 6. */
 uint64_t dulvaspen_judge_share(const uint8_t *share, uint64_t share_len, uint64_t *head, uint64_t head_len);
+
+/* ---- a share that arrives: judged while its bytes come, in bursts of any size, keeping none of them ----
+ *
+ *   uint64_t state[DULVASPEN_ARRIVING_WORDS], head[6], bytes;
+ *   dulvaspen_arriving_start(state, DULVASPEN_ARRIVING_WORDS);
+ *   while ((got = read(in, burst, sizeof burst)) > 0) {
+ *       dulvaspen_arriving_take(state, DULVASPEN_ARRIVING_WORDS, burst, got);
+ *       if (dulvaspen_arriving_judge(state, DULVASPEN_ARRIVING_WORDS, head, 6) == 8) break;      // hopeless: stop the copy now
+ *   }
+ *   if (dulvaspen_arriving_judge(state, DULVASPEN_ARRIVING_WORDS, head, 6) == 0) ...             // the whole share, and its head
+ *
+ * The state is an array of DULVASPEN_ARRIVING_WORDS numbers that the caller owns. It is a function of all bytes so far: how they were cut
+ * makes no difference, not even in the state's numbers. So it may be kept, copied, stored and gone on with elsewhere (an array of 64-bit
+ * numbers, in this machine's order of bytes). What its numbers mean may change with the next MAJOR version.
+ *
+ * Any numbers may stand in it. Numbers to which no bytes lead are judged 8, and taking bytes leaves them as they are, so a state that was
+ * damaged or never started doesn't come alive. Each call refuses a state of another length by 5, before anything else, and then leaves
+ * everything as it was. */
+
+/* The state of no bytes. Refusal: 5. */
+uint64_t dulvaspen_arriving_start(uint64_t *state, uint64_t state_len);
+
+/* Takes the bytes that came, zero or many. It returns 0: it takes, it doesn't judge. After the first byte that can't stand, nothing is counted
+ * on. Refusal: 5. */
+uint64_t dulvaspen_arriving_take(uint64_t *state, uint64_t state_len, const uint8_t *bytes, uint64_t bytes_len);
+
+/* What dulvaspen_judge_share returns for all bytes so far, and the head: 0 for a whole share, 7 for the beginning of one, 8 for neither. head_len
+ * must be 6 (else 6). Refusals: 5, then 7, 8, then 6. */
+uint64_t dulvaspen_arriving_judge(const uint64_t *state, uint64_t state_len, uint64_t *head, uint64_t head_len);
+
+/* Whose share is coming: as soon as the head is in and while nothing is wrong, 0, head[0..5], and *bytes = the bytes that the whole share
+ * will have, complete or not. 7 while the head isn't in (its first 11 bytes), 8 as above. head_len must be 6 (else 6).
+ * Refusals: 5, then 7, 8, then 6. */
+uint64_t dulvaspen_arriving_head(const uint64_t *state, uint64_t state_len, uint64_t *head, uint64_t head_len, uint64_t *bytes);
 
 #ifdef __cplusplus
 }
