@@ -6,7 +6,7 @@
 Green boxes are the library, blue ones its programs. The tests, grey, stand in a row of their own above the house: under each is what it stands on.
 """
 
-PROGRAMS = {"judge", "tour"}
+PROGRAMS = {"judge", "watch", "tour"}
 TESTS = {"examples", "desk", "marks", "calls", "disks", "rescue", "lines", "script_line", "script", "store_runs", "share_runs", "verdict_runs"}
 WIDTH, HEIGHT, GAP, RISE, LANE = 92, 28, 16, 70, 14
 

@@ -33,6 +33,27 @@ written, 2 no proved program to run. Of several files the highest. A letter that
   ${called}judge < examples/complete.share
 END
         ;;
+    watch) cat <<END
+${called}watch < FILE
+
+Judges a share while it comes in on standard input, however slowly and however long, and keeps none of it. It writes the line that
+judge writes for such bytes, as soon as it is known: at the first byte that can't stand it stops reading; a share is complete only
+when the input ends, since a byte more would make it malformed.
+
+  complete 3 2 2 node 1 length 1 batch 7 letters 2     a share: n, k, d, the node, L, the batch and its letters
+  unfinished                                           the input ended within a share (no bytes, too)
+  malformed                                            neither
+
+On standard error: whose share it is and how many of how many bytes are in, moving where that is a terminal, and otherwise one line
+at the end.
+
+Exit status: 0 complete, 1 unfinished, 3 malformed, 5 no judgment, since the input can't be read or the line not written, 2 no
+proved program to run. A letter that was flipped on the way is not noticed.
+
+  ${called}watch < examples/complete.share
+  tee COPY < examples/complete.share | ${called}watch
+END
+        ;;
     tour) cat <<END
 ${called}tour
 
@@ -56,7 +77,7 @@ END
     esac
 }
 
-# The status of a line that the judge wrote; an empty one means that it could not read.
+# The status of a line that judge or watch wrote; an empty one means that it could not read.
 status_of_line() {
     case $1 in
     'complete '*) echo 0 ;;
@@ -67,11 +88,11 @@ status_of_line() {
     esac
 }
 
-# Judges standard input; $1 stands before the line. The status is the line's. The program says itself that it can't read.
+# Judges standard input by the program $1; $2 stands before the line. The status is the line's. The program says itself that it can't read.
 judge_input() {
-    line=$(start judge) || { echo "judge: the program itself failed" >&2; return 2; }
+    line=$(start "$1") || { echo "$1: the program itself failed" >&2; return 2; }
     [ -n "$line" ] || return 5
-    printf '%s%s\n' "$1" "$line" || return 5
+    printf '%s%s\n' "$2" "$line" || return 5
     return "$(status_of_line "$line")"
 }
 
@@ -84,17 +105,28 @@ judge_file() {
     elif [ ! -r "$1" ]; then
         echo "judge: $1: may not be read" >&2
     else
-        judge_input "$1: " < "$1"
+        judge_input judge "$1: " < "$1"
         return
     fi
     return 5
 }
 
+# Judges standard input by the program $1, if it is open.
+judge_open() {
+    [ -z "$closed" ] || { echo "$1: standard input is closed" >&2; return 5; }
+    judge_input "$1" ''
+}
+
+# Judges what comes in. A file that is named would be waited for in vain.
+watch_input() {
+    [ $# -eq 0 ] || { echo "watch: takes no arguments: the share comes on standard input" >&2; return 5; }
+    judge_open watch
+}
+
 # Judges all files, or standard input where none is named. The highest status counts.
 judge_all() {
     if [ $# -eq 0 ]; then
-        [ -z "$closed" ] || { echo "judge: standard input is closed" >&2; return 5; }
-        judge_input ''
+        judge_open judge
         return
     fi
     worst=0
@@ -126,6 +158,7 @@ run_program() {
     esac
     case $name in
     judge) judge_all "$@" ;;
+    watch) watch_input "$@" ;;
     tour) run_and_look tour 'It is the batch, letter for letter.' ;;
     desk) run_and_look desk 'lines of the examples agree: all' ;;
     *) start "$name" "$@" ;;

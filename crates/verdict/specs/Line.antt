@@ -8,6 +8,7 @@ use lib.ListN.{length, drop}
 use Rattle.group.specs.declared.Group.{Group}
 use Rattle.lengths.specs.Lengths.{nodeLetters}
 use Rattle.heads.specs.declared.Head.{Head}
+use Rattle.heads.specs.Kind1.{kind1Total}
 use Rattle.judging.specs.Judging.{Judges}
 use Rattle.text.specs.Text.{numbered}
 
@@ -73,6 +74,11 @@ refusedLine number = cond (eqb number 7) unfinishedLine malformedLine
 abbrev pub lineFor : ℕ → Head → List ℕ
 lineFor zero h = completeLine h (nodeLetters (h .group) (h .node))
 lineFor (suc number) h = refusedLine (suc number)
+
+-- the same for any number and head, those of no bytes too: a head whose numbers are out of range, which no share has, counts no letters
+abbrev pub judgmentLine : ℕ → Head → List ℕ
+judgmentLine zero h = completeLine h (kind1Total h)
+judgmentLine (suc number) h = refusedLine (suc number)
 
 -- The line for these bytes: more than 65,536, whatever they are, are too long; others are judged.
 pub data Line (xs : List ℕ) : List ℕ → Type 0 where

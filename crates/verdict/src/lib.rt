@@ -9,7 +9,8 @@ ghost use Prim.Native.Nat.{_≤_};
 ghost use lib.ListN.{length};
 ghost use Rattle.io.specs.Counts.{Counts};
 ghost use Rattle.text.specs.Text.{Put};
-ghost use Rattle.verdict.specs.Line.{Told, completeGroup, completeLine, refusedLine};
+ghost use Rattle.judging.specs.Judging.{judgmentNumber, headOf};
+ghost use Rattle.verdict.specs.Line.{Told, completeGroup, completeLine, refusedLine, judgmentLine};
 
 // Puts `complete` and the group's three numbers.
 fn put_group(g: Group, line: &mut [u8]) -> usize
@@ -47,8 +48,19 @@ fn put_refused(number: usize, line: &mut [u8]) -> usize
     }
 }
 
-// Puts the line for these bytes at the start of `line`, whose other bytes stay as they were. The answer is how many bytes it has, the end
-// of the line included.
+// Puts the line of a judgment at the start of `line`, whose other bytes stay as they were. The answer is how many bytes it has, the end of
+// the line included. A share of any length has one, and its bytes needn't be there.
+pub fn judgment_line(judgment: Judgment, line: &mut [u8; 192]) -> usize
+    ensures text { λ r. ⌜ Put (now (line .entry)) 0 (judgmentLine (judgmentNumber judgment) (headOf judgment)) r (now (line .exit)) ⌝ }
+    ensures within { λ r. ⌜ Counts r (now (line .exit)) ⌝ }
+{
+    match judgment {
+        Judgment::Complete(head) => put_complete(head, kind1::total(head), line),
+        Judgment::Refused(refusal) => put_refused(group::refusal_number(refusal), line),
+    }
+}
+
+// Puts the line for these bytes, in the same way.
 pub fn line(bytes: &[u8], line: &mut [u8; 192]) -> usize
     ensures told { λ r. ⌜ Told (now (bytes .entry)) (now (line .entry)) r (now (line .exit)) ⌝ }
     ensures within { λ r. ⌜ Counts r (now (line .exit)) ⌝ }
@@ -56,8 +68,5 @@ pub fn line(bytes: &[u8], line: &mut [u8; 192]) -> usize
     if 65536 < bytes.len() {
         return text::put(line, 0, b"too long for this program\n");
     }
-    match share::judge(bytes) {
-        Judgment::Complete(head) => put_complete(head, kind1::total(head), line),
-        Judgment::Refused(refusal) => put_refused(group::refusal_number(refusal), line),
-    }
+    judgment_line(share::judge(bytes), line)
 }

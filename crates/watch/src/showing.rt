@@ -1,0 +1,54 @@
+// What standard error says of a share that is coming in. Only a terminal can take a line back, so only there it moves.
+use arriving::Arriving;
+use arriving::Coming;
+use heads::Head;
+use libc::STDERR_FILENO;
+
+// Writes how far a share is, with no end of the line.
+fn write_share(head: Head, part: usize, whole: usize) {
+    let mut line = [0u8; 256];
+    let count = progress::line(head, part, whole, &mut line);
+    io::write_all(STDERR_FILENO, &line[..count]);
+}
+
+// Writes a line with a number in it.
+fn write_note(words: &[u8], number: usize, rest: &[u8]) {
+    io::write_all(STDERR_FILENO, words);
+    io::print_decimal(STDERR_FILENO, number as u64);
+    io::write_all(STDERR_FILENO, rest);
+}
+
+// Leaves the line in which a share was shown, if its head was in.
+pub fn leave(state: Arriving) {
+    if let Coming::Share(_, _) = state.coming() {
+        io::write_all(STDERR_FILENO, b"\n");
+    }
+}
+
+// After a burst, shows how far the share is, over what was shown before, once its head is in. `before` is the state before the burst.
+pub fn show(before: Arriving, state: Arriving) {
+    match state.coming() {
+        Coming::Share(head, whole) => {
+            io::write_all(STDERR_FILENO, b"\r");
+            write_share(head, state.at, whole);
+        }
+        Coming::Refused(_) => leave(before),
+    }
+}
+
+// The last line: how far a share came, or which byte can't be one of it. Where it moved, a share's line is there already, without its end.
+pub fn end(state: Arriving, moving: bool) {
+    if state.wrong != 0 {
+        write_note(b"the byte at index ", state.at, b" can't stand there\n");
+        return;
+    }
+    match state.coming() {
+        Coming::Share(head, whole) => {
+            if !moving {
+                write_share(head, state.at, whole);
+            }
+            io::write_all(STDERR_FILENO, b"\n");
+        }
+        Coming::Refused(_) => write_note(b"no head yet, bytes so far: ", state.at, b"\n"),
+    }
+}
