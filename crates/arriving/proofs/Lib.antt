@@ -5,5 +5,6 @@ pub mod Led
 pub mod Taking
 pub mod Telling
 pub mod Near
+pub mod PastHead
 pub mod Meaning
 pub mod Outcomes

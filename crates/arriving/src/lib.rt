@@ -12,7 +12,8 @@ ghost use mathlib.Core.Path.{_≡_};
 ghost use mathlib.Core.Bool.{true};
 ghost use mathlib.Core.List.{[]};
 ghost use mathlib.Core.Logic.{_↔_};
-ghost use Prim.Native.Nat.{_^_, _<_};
+ghost use Prim.Native.Nat.{_^_, _≤_, _<_};
+ghost use Rattle.heads.specs.Kind1.{kind1Size};
 ghost use Rattle.judging.specs.Judging.{judgmentNumber, headOf};
 ghost use Rattle.arriving.specs.States.{headSoFar, stateWith, stateOf, Leads};
 ghost use Rattle.arriving.specs.Calls.{Takes, JudgesState, Announces, comingNumber, comingHead, comingBytes};
@@ -109,6 +110,38 @@ impl Arriving {
 
     // The state after these bytes. One to which no bytes lead stays as it is.
     pub fn after(self, bytes: &[u8]) -> Arriving
+        ensures { λ r. ⌜ Takes self (now (bytes .entry)) r ⌝ }
+    {
+        if self.wrong == 0 && kind1::SIZE <= self.at {
+            return self.past_head(bytes);
+        }
+        self.in_head(bytes)
+    }
+
+    // The same where the head is in, if bytes lead here: then it changes no more.
+    fn past_head(self, bytes: &[u8]) -> Arriving
+        requires { ⌜ (self .wrong ≡ 0) × (kind1Size ≤ self .at) ⌝ }
+        ensures { λ r. ⌜ Takes self (now (bytes .entry)) r ⌝ }
+    {
+        if 4294967295 < self.batch {
+            return self;
+        }
+        let at = self.at;
+        let head = self.head_so_far();
+        let letters = kind1::total(head);
+        if !reaching::within(letters, at) {
+            return self;
+        }
+        let good = reaching::good_in(bytes, at, head, letters);
+        let end = at + good;
+        if good == bytes.len() {
+            return state_with(end, 0, head);
+        }
+        state_with(end, 1, head)
+    }
+
+    // The same where it isn't, or where a byte was wrong already.
+    fn in_head(self, bytes: &[u8]) -> Arriving
         ensures { λ r. ⌜ Takes self (now (bytes .entry)) r ⌝ }
     {
         if !self.reached() {

@@ -15,7 +15,7 @@ use Rattle.group.specs.Answers.{ifFine}
 use Rattle.group.specs.Ranges.{groupOf, between, longest, nodeRefusal, NodeOf}
 use Rattle.lengths.specs.Lengths.{nodeLetters}
 use Rattle.group.proofs.InRange.{between-true, true-between, node-of, of-node}
-use Rattle.lengths.proofs.Sizes.{node-at-most}
+use Rattle.lengths.proofs.Sizes.{node-at-most, node-some}
 use Rattle.records.specs.Records.{totalLimit, pair, four}
 use Rattle.letters.specs.Lanes.{Bytes}
 use Rattle.layout.specs.Laws.{Lawful, SameBelow, Passes}
@@ -82,6 +82,18 @@ total-small h = by (nodeRefusal (h .group) (h .node)) refl
     by : (q : ℕ) → nodeRefusal (h .group) (h .node) ≡ q → ifFine q (nodeLetters (h .group) (h .node)) 0 < totalLimit
     by zero e = omega (arith, node-at-most (h .group) (h .node) (node-of (h .group) (h .node) e))
     by (suc q) e = omega arith
+
+-- and some exactly if the numbers are in range
+pub total-some : (h : Head) → NodeOf (h .group) (h .node) → kind1Total h ≡ 0 → ⊥
+total-some h w none = omega (arith, node-some (h .group) (h .node) w, total-of h w)
+
+pub some-node : (h : Head) → (kind1Total h ≡ 0 → ⊥) → NodeOf (h .group) (h .node)
+unfolding kind1Total
+some-node h some = by (nodeRefusal (h .group) (h .node)) refl
+  where
+    by : (q : ℕ) → nodeRefusal (h .group) (h .node) ≡ q → NodeOf (h .group) (h .node)
+    by zero e = node-of (h .group) (h .node) e
+    by (suc q) e = absurd (some (rw e refl))
 
 -- a number from its bytes
 pair-back : (x : ℕ) → x < 256 ^ 2 → pair (x % 256) (x / 256 % 256) ≡ x

@@ -31,7 +31,12 @@ zero-past T r j past within =
 
 pub no-letters : (T nth offset : ℕ) → Lettered T nth offset 0
 no-letters T nth offset =
-    record { few = omega arith; any = λ tests j byte lo hi. absurd (omega arith); filled = λ some. absurd (omega arith) }
+    record {
+      few = omega arith;
+      inside = λ some. absurd (omega arith);
+      any = λ tests j byte lo hi. absurd (omega arith);
+      filled = λ some. absurd (omega arith);
+    }
 
 pub letters-behind :
     (T nth offset count : ℕ) → (nth ≡ 0 → ⊥) → nth ≤ blocks T → offset + count ≤ blockLetters → offset + count ≤ T - (nth - 1) * blockLetters
@@ -39,6 +44,7 @@ pub letters-behind :
 letters-behind T nth offset count past within few left =
     record {
       few = omega arith;
+      inside = λ some. few;
       any =
           λ tests j byte lo hi.
           stands-past-head tests T nth j byte past ∙ any-letter T (nth - 1) j byte (λ e. omega arith) (omega (arith, past)) (omega arith);

@@ -6,7 +6,7 @@ ghost use Rattle.records.specs.Records.{totalLimit};
 ghost use Rattle.layout.specs.Steps.Reading.{Lettered, ZerosTo, Skips, FullBlocks};
 
 // How many letters follow this byte in its record: those of its block that are left.
-fn letters_after(letters: usize, nth: usize, offset: usize) -> usize
+pub fn letters_after(letters: usize, nth: usize, offset: usize) -> usize
     requires { ⌜ letters < totalLimit ⌝ }
     ensures { λ r. ⌜ Lettered letters nth offset r ⌝ }
 {

@@ -50,6 +50,11 @@ module _ (g : Group) (i : ℕ) (r : NodeOf g i) where
   pub most-letters : nodeLetters g i ≤ 64590
   most-letters = node-at-most
 
+  -- and it holds some
+  pub node-some : 1 ≤ nodeLetters g i
+  unfolding nodeLetters
+  node-some = mul-le-mul {n₁ = 1} {m₁ = 1} (omega arith) (omega arith)
+
   -- a packet ends within the node's letters
   pub packet-fits : (j : ℕ) → 1 ≤ j → j ≤ g .d → packetStart g i j + packetLength g i j ≤ nodeLetters g i
   unfolding packetLength nodeLetters

@@ -37,8 +37,7 @@ fn widened(g: Group, node: usize) -> usize
     requires { ⌜ NodeOf g node ⌝ }
     ensures { λ r. ⌜ (r ≡ g .l + t node (g .d)) × (r ≤ longestPacket) ⌝ }
 {
-    let table = shifts::all();
-    widened_in(&table, g, node)
+    g.l + shifts::shift(node, g.d)
 }
 
 // The index at which a packet of a node starts.

@@ -22,11 +22,10 @@ pub fn shift_in(table: &[u8], node: usize, column: usize) -> usize
     table[(node - 1) * 16 + (column - 1)] as usize
 }
 
-// The same for one shift alone.
+// The same for one shift alone, by the rule: to lay the table out for it takes ten times as long.
 pub fn shift(node: usize, column: usize) -> usize
     requires { ⌜ (1 ≤ node) × (node ≤ 16) × (1 ≤ column) × (column ≤ 16) ⌝ }
     ensures { λ r. ⌜ r ≡ t node column ⌝ }
 {
-    let table = all();
-    shift_in(&table, node, column)
+    (node - 1) * (column - 1)
 }

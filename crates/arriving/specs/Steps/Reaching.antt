@@ -10,6 +10,11 @@ use Rattle.heads.specs.Heads.{heads}
 use Rattle.heads.specs.Steps.Partly.{PartlyIn, headAfter}
 use Rattle.judging.specs.Steps.Search.{standsAt}
 
+-- so many bytes can stand in a share of so many letters, of which it has some
+pub record Within (letters at : ℕ) : Type 0 where
+  pub some : letters ≡ 0 → ⊥
+  pub share : at ≤ sizeFor kind1Size letters
+
 -- a head's numbers where so many bytes can stand
 pub record HeadAt (h : Head) (at : ℕ) : Type 0 where
   pub partly : at < kind1Size → PartlyIn h at

@@ -15,6 +15,7 @@ pub record Copied (head : ℕ) (xs : List ℕ) (count : ℕ) (letters : List ℕ
 -- so many bytes after this one in its record are letters: any byte can stand there, and where there are any, zero up to the record's end
 pub record Lettered (letters nth offset count : ℕ) : Type 0 where
   pub few : count ≤ blockLetters
+  pub inside : 1 ≤ count → offset + count ≤ blockLetters
   pub any : (tests : List Bool) (j byte : ℕ) → offset < j → j ≤ offset + count → standsIn tests letters nth j byte ≡ true
   pub filled : 1 ≤ count → (tests : List Bool) (j : ℕ) → offset < j → standsIn tests letters nth j 0 ≡ true
 

@@ -1,4 +1,4 @@
--- `reaching::head_with` meets its contract: a head that is all in grows no more.
+-- `reaching::head_with` meets its contract: a head that is all in grows no more, and one of which no byte is in is read from those that come.
 use mathlib.Core.Path.{sym}
 use native.Mathlib.Omega.{arith}
 use Rattle.arriving.proofs.BytesBehind.{whole-grown}
@@ -9,11 +9,18 @@ use Rattle.arriving.proofs.reaching.head_with.Tie as tie
 returns : tie.Need-returns
 returns c = let s = c .before .before in sym (whole-grown (s .args .head) (s .args .at) (s .pre .whole (c .if1 .taken)) (c .if1 .taken) _)
 
-head-after-requires : tie.Need-head-after-requires
-head-after-requires c κs = (c .before .before .pre .partly (c .if1 .left) .fits, omega arith)
+head-in-requires : tie.Need-head-in-requires
+head-in-requires c κs = search needs
 
 returns-2 : tie.Need-returns-2
-returns-2 c = search needs
+returns-2 c = rw (c .before .if2 .taken) (c .head-in .ensures)
+
+head-after-requires : tie.Need-head-after-requires
+head-after-requires c κs = (c .before .before .before .pre .partly (c .before .if1 .left) .fits, omega arith)
+
+returns-3 : tie.Need-returns-3
+returns-3 c = search needs
 
 pub head-with-spec : {M : Type 1} → statement M
-head-with-spec = tie.close (tie.spec returns head-after-requires returns-2)
+head-with-spec =
+    tie.close (tie.spec returns head-in-requires returns-2 head-after-requires returns-3)

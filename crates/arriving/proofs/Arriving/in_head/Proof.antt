@@ -1,4 +1,4 @@
--- `after` meets its contract: nothing is taken in a state to which no bytes lead or after a wrong byte, and else the search tells how far it goes.
+-- `in_head` meets its contract: nothing is taken in a state to which no bytes lead or after a wrong byte, and else the search tells how far it goes.
 use mathlib.Core.Path.{sym, ap, subst, _∙_}
 use native.Mathlib.Omega.{arith}
 use lib.ListN.{take}
@@ -11,8 +11,8 @@ use Rattle.arriving.proofs.Led.{batch-led, known-numbers}
 use Rattle.arriving.proofs.Near.{near}
 use Rattle.arriving.proofs.Taking.{forged-stays, wrong-stays, takes-all, takes-some}
 use borrow.Author.Needs.{needs}
-use Rattle.arriving.proofs.Arriving.after.Statement.{statement}
-use Rattle.arriving.proofs.Arriving.after.Tie as tie
+use Rattle.arriving.proofs.Arriving.in_head.Statement.{statement}
+use Rattle.arriving.proofs.Arriving.in_head.Tie as tie
 
 reached-requires : tie.Need-reached-requires
 reached-requires c κs = search needs
@@ -68,8 +68,8 @@ returns-4 c =
     (w .ensures) (omega (arith, w .ensures .within, c .before .before .before .if3 .left)) _
     (c .before .head-with2 .ensures ∙ ap (λ h. headAfter h (s .self .at) (take (w .result) (s .bytes .now))) (c .before .before .before .before .before .before .before .head-so-far .ensures)))
 
-pub after-spec : {M : Type 1} → statement M
-after-spec =
+pub in-head-spec : {M : Type 1} → statement M
+in-head-spec =
     tie.close
     (tie.spec
     reached-requires
