@@ -1,0 +1,60 @@
+// Bytes handed over in bursts of any lengths.
+ghost use Prim.Native.Nat.{_≤_, _<_};
+use arriving::Arriving;
+
+// How many bytes the next burst has: `size`, or as many as are left; one where the size is 0.
+fn taken(size: usize, left: usize) -> usize
+    requires { ⌜ 0 < left ⌝ }
+    ensures { λ r. ⌜ (0 < r) × (r ≤ left) ⌝ }
+{
+    if size == 0 {
+        return 1;
+    }
+    if size < left { size } else { left }
+}
+
+// All bytes from the start, in bursts of a size, with an empty one after each: a digit for the judgment after each, and the state at the end.
+pub fn of_size(bytes: &[u8], size: usize) -> Arriving {
+    let mut state = Arriving::start();
+    let mut at = 0;
+    while at < bytes.len() {
+        let count = taken(size, bytes.len() - at);
+        state = state.after(lines::part(bytes, at, count));
+        arriving_words::digit(state);
+        state = state.after(lines::part(bytes, 0, 0));
+        at += count;
+    }
+    state
+}
+
+// From the start and cut into two bursts at a place: a digit for what the first is judged to be, and a mark where the state after both
+// isn't `whole`.
+fn cut_at(bytes: &[u8], cut: usize, left: usize, whole: Arriving) {
+    let first = Arriving::start().after(lines::part(bytes, 0, cut));
+    arriving_words::digit(first);
+    let both = first.after(lines::part(bytes, cut, left));
+    if !arriving_words::same(both, whole) {
+        lines::say(b"!");
+    }
+}
+
+// The same at every place, from none in the first burst to all but one. The answer is the state after a single burst.
+pub fn cuts(bytes: &[u8]) -> Arriving {
+    let whole = Arriving::start().after(bytes);
+    let mut cut = 0;
+    while cut < bytes.len() {
+        cut_at(bytes, cut, bytes.len() - cut, whole);
+        cut += 1;
+    }
+    whole
+}
+
+// Each of the 256 bytes as the next one after a state: a digit for each. The answer is the state before them.
+pub fn sweep(state: Arriving) -> Arriving {
+    let mut byte: usize = 0;
+    while byte < 256 {
+        arriving_words::digit(state.after(&[byte as u8]));
+        byte += 1;
+    }
+    state
+}

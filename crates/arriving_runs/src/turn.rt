@@ -1,0 +1,45 @@
+// What a line does with the state.
+use crate::bursts;
+use arriving::Arriving;
+use script_line::Line;
+
+// The state with another word: the line has the word's number, and the upper and the lower half of what it shall be, since no number of a
+// line has 64 bits.
+fn forged(line: Line, state: Arriving) -> Arriving {
+    let halves = line.group;
+    let word = halves.k % 4294967296 * 4294967296 + halves.d % 4294967296;
+    arriving_words::with(state, line.own, word)
+}
+
+// What a forged state answers. The answer is what becomes of it after further bytes.
+fn aside(forged: Arriving, from: &[u8]) -> Arriving {
+    arriving_words::answers(forged);
+    forged.after(from)
+}
+
+// 31 hands A's slice over from the start, 32 goes on with it, and 33 hands it over in bursts of a size. 34 sets a word. The others are told
+// and not kept: 35 sets a word and goes on with A's slice, 36 cuts A's slice everywhere, 37 tries every byte that could come next.
+fn done(line: Line, state: Arriving, from: &[u8]) -> Arriving {
+    let operation = line.operation;
+    match operation {
+        31 => Arriving::start().after(from),
+        32 => state.after(from),
+        33 => bursts::of_size(from, line.own),
+        34 => forged(line, state),
+        35 => aside(forged(line, state), from),
+        36 => bursts::cuts(from),
+        _ => bursts::sweep(state),
+    }
+}
+
+// The state that is kept after a line; one of the memories leaves it as it is.
+pub fn call(line: Line, state: Arriving, a: &[u8], b: &[u8]) -> Arriving {
+    if line.operation < 10 {
+        return state;
+    }
+    lines::say(b":");
+    let after = done(line, state, lines::part(a, line.a, line.a_length));
+    arriving_words::state(after);
+    script::sum(lines::part(b, line.b, line.b_length));
+    if line.operation < 35 { after } else { state }
+}
