@@ -3,7 +3,7 @@
 use mathlib.Core.Path.{_≡_, refl, sym, ap, ap₂, subst, _∙_}
 use mathlib.Core.Bool.{false, cond}
 use mathlib.Core.List.{List, [], _∷_, _++_}
-use mathlib.Core.Logic.{⊎-elim}
+use mathlib.Core.Logic.{inl, inr, ⊎-elim}
 use Prim.Native.Nat.{ℕ, suc, _+_, _^_, _≤_, _<_}
 use native.Mathlib.Numerals.{add-one}
 use native.Mathlib.Omega.{arith}
@@ -26,7 +26,7 @@ use Rattle.judging.specs.Steps.Search.{standsAt, Stops, StopsFrom}
 use Rattle.judging.proofs.Joining.{stands-at, joined}
 use Rattle.arriving.specs.declared.Arriving.{Arriving}
 use Rattle.arriving.specs.States.{goodBytes, stateWith, headSoFar, stateOf, Leads}
-use Rattle.arriving.specs.Steps.Reaching.{HeadAt, CanBeWrong}
+use Rattle.arriving.specs.Steps.Reaching.{HeadAt, CanBeWrong, Led}
 use Rattle.arriving.proofs.GoodBytes.{good-stops, good-is}
 use Rattle.arriving.proofs.BytesBehind.{Behind, numbers-of, grown, some-behind}
 
@@ -192,8 +192,16 @@ module _ (s : Arriving) (h : Head) (e : h ≡ headSoFar s) where
   pub known-right : HeadAt h (s .at) → s .wrong ≡ 0 → Leads s
   known-right w = leads-right s (subst (λ h. HeadAt h (s .at)) e w)
 
-  pub known-wrong : HeadAt h (s .at) → s .wrong ≡ 1 → CanBeWrong h (s .at) → Leads s
-  known-wrong w one c = leads-wrong s (subst (λ h. HeadAt h (s .at)) e w) one (subst (λ h. CanBeWrong h (s .at)) e c)
+  pub known-led : Leads s → Led h (s .at) (s .wrong)
+  known-led led =
+      record {
+        numbers = known-numbers led;
+        flag = ⊎-elim inl (λ some. inr (wrong-led s led some .0)) (eq-or-ne (s .wrong) 0);
+        byte = λ some. rw e (wrong-led s led some .1);
+      }
 
-  pub some-wrong : Leads s → (s .wrong ≡ 0 → ⊥) → CanBeWrong h (s .at)
-  some-wrong led some = rw e (wrong-led s led some .1)
+  pub led-known : Led h (s .at) (s .wrong) → Leads s
+  led-known w =
+      ⊎-elim (known-right (w .numbers))
+      (λ one. leads-wrong s (subst (λ h. HeadAt h (s .at)) e (w .numbers)) one (subst (λ h. CanBeWrong h (s .at)) e (w .byte (λ none. omega arith))))
+      (w .flag)

@@ -4,6 +4,7 @@ pub mod BytesBehind
 pub mod Led
 pub mod Taking
 pub mod Telling
+pub mod Stepping
 pub mod Near
 pub mod PastHead
 pub mod Meaning

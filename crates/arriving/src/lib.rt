@@ -96,16 +96,7 @@ impl Arriving {
             return false;
         }
         let head = self.head_so_far();
-        if !reaching::head_at(head, self.at) {
-            return false;
-        }
-        if self.wrong == 0 {
-            return true;
-        }
-        if 1 < self.wrong {
-            return false;
-        }
-        reaching::can_be_wrong(head, self.at)
+        reaching::led(head, kind1::total(head), self.at, self.wrong)
     }
 
     // The state after these bytes. One to which no bytes lead stays as it is.
@@ -166,11 +157,14 @@ impl Arriving {
     pub fn judge(self) -> Judgment
         ensures { λ r. ⌜ JudgesState self (judgmentNumber r) (headOf r) ⌝ }
     {
-        if !self.reached() {
+        if 4294967295 < self.batch {
             return Judgment::Refused(Refusal::Malformed);
         }
         let head = self.head_so_far();
         let letters = kind1::total(head);
+        if !reaching::led(head, letters, self.at, self.wrong) {
+            return Judgment::Refused(Refusal::Malformed);
+        }
         judging::judged(kind1::SIZE, head, letters, self.at, self.at + self.wrong)
     }
 

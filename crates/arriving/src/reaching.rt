@@ -10,12 +10,12 @@ ghost use mathlib.Core.Bool.{true};
 ghost use mathlib.Core.List.{[], _∷_};
 ghost use mathlib.Core.Logic.{_↔_};
 ghost use Prim.Native.Nat.{_≤_, _<_};
-ghost use Rattle.records.specs.Records.{totalLimit};
+ghost use Rattle.records.specs.Records.{totalLimit, sizeFor};
 ghost use Rattle.heads.specs.Kind1.{kind1Size};
 ghost use Rattle.heads.specs.Heads.{heads};
 ghost use Rattle.heads.specs.Steps.Partly.{headAfter};
-ghost use Rattle.judging.specs.Steps.Search.{standsAt, farthest, StopsFrom};
-ghost use Rattle.arriving.specs.Steps.Reaching.{Within, HeadAt, CanBeWrong};
+ghost use Rattle.judging.specs.Steps.Search.{standsAt, StopsFrom};
+ghost use Rattle.arriving.specs.Steps.Reaching.{Within, Begun, HeadAt, CanBeWrong, Led};
 
 // So many bytes can stand in a share of so many letters, with its head in. (Where a head's numbers are out of range, there are none.)
 pub fn within(letters: usize, at: usize) -> bool
@@ -29,28 +29,44 @@ pub fn within(letters: usize, at: usize) -> bool
 }
 
 // These are a head's numbers where so many bytes can stand.
-pub fn head_at(head: Head, at: usize) -> bool
+fn head_at(head: Head, letters: usize, at: usize) -> bool
+    requires { ⌜ letters ≡ heads .total head ⌝ }
     ensures { λ r. ⌜ (r ≡ true) ↔ HeadAt head at ⌝ }
 {
     if at < kind1::SIZE {
         return partly::partly_in(head, at);
     }
-    within(kind1::total(head), at)
+    within(letters, at)
 }
 
-// How many of these bytes, which come after so many with this head in, can stand. Where all of them are letters, there is nothing to look at.
+// How many of these bytes can stand where the first `start` do: full blocks are stepped over from there on, where block r begins if it is a
+// full one, and if bytes are left, the search tells.
+fn good_from(bytes: &[u8], start: usize, r: usize, at: usize, head: Head, letters: usize) -> usize
+    requires { ⌜ (at ≤ sizeFor kind1Size letters) × (letters ≡ heads .total head) × Begun at head (now bytes) start r ⌝ }
+    ensures { λ good. ⌜ StopsFrom at head (now (bytes .entry)) good ⌝ }
+{
+    let next = skipping::past_full_blocks(bytes, start, letters, r);
+    if next == bytes.len() {
+        return next;
+    }
+    next + search::first_wrong(&bytes[next..], at + next, head, letters)
+}
+
+// How many of these bytes, which come after so many with this head in, can stand. Letters are stepped over: there is nothing to look at.
 pub fn good_in(bytes: &[u8], at: usize, head: Head, letters: usize) -> usize
-    requires { ⌜ (kind1Size ≤ at) × (at ≤ farthest) × (letters ≡ heads .total head) ⌝ }
+    requires { ⌜ (kind1Size ≤ at) × (at ≤ sizeFor kind1Size letters) × (letters ≡ heads .total head) ⌝ }
     ensures { λ r. ⌜ StopsFrom at head (now (bytes .entry)) r ⌝ }
 {
+    let nth = sizes::record_at(kind1::SIZE, at);
     let offset = sizes::offset_at(kind1::SIZE, at);
-    if 0 < offset {
-        let nth = sizes::record_at(kind1::SIZE, at);
-        if bytes.len() <= skipping::letters_after(letters, nth, offset - 1) {
-            return bytes.len();
-        }
+    if offset == 0 {
+        return good_from(bytes, 0, nth - 1, at, head, letters);
     }
-    search::first_wrong(bytes, at, head, letters)
+    let left = skipping::letters_after(letters, nth, offset - 1);
+    if bytes.len() <= left {
+        return bytes.len();
+    }
+    good_from(bytes, left, nth, at, head, letters)
 }
 
 // The head's numbers once these bytes have come after so many.
@@ -79,7 +95,7 @@ fn next_stands(head: Head, at: usize, byte: u8) -> bool
 
 // Some byte can't stand after so many with this head: where 0 and 255 both can, any can, since it is a letter, or a byte of a number that
 // isn't tested there.
-pub fn can_be_wrong(head: Head, at: usize) -> bool
+fn can_be_wrong(head: Head, at: usize) -> bool
     requires { ⌜ HeadAt head at ⌝ }
     ensures { λ r. ⌜ (r ≡ true) ↔ CanBeWrong head at ⌝ }
 {
@@ -87,4 +103,21 @@ pub fn can_be_wrong(head: Head, at: usize) -> bool
         return true;
     }
     !next_stands(head, at, 255)
+}
+
+// Bytes lead to these numbers: a head where so many can stand, with a byte that couldn't only where some byte can't.
+pub fn led(head: Head, letters: usize, at: usize, wrong: usize) -> bool
+    requires { ⌜ letters ≡ heads .total head ⌝ }
+    ensures { λ r. ⌜ (r ≡ true) ↔ Led head at wrong ⌝ }
+{
+    if !head_at(head, letters, at) {
+        return false;
+    }
+    if wrong == 0 {
+        return true;
+    }
+    if 1 < wrong {
+        return false;
+    }
+    can_be_wrong(head, at)
 }

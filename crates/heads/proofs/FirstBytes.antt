@@ -15,7 +15,7 @@ use Rattle.layout.specs.Laws.{Passes}
 use Rattle.layout.proofs.LaidOut.{append-at-left, append-at-right}
 use Rattle.heads.specs.declared.Head.{Head}
 use Rattle.heads.specs.Kind1.{kindHead, kind1Size, kind1Record, Kind1Numbers, kind1In, kind1Tests, kind1}
-use Rattle.heads.specs.Steps.Partly.{Kind1Fits, PartlyIn, partlyAt, headAfter}
+use Rattle.heads.specs.Steps.Partly.{Kind1Fits, Blank, PartlyIn, partlyAt, headAfter}
 use Rattle.heads.proofs.Kind1Laws.{each-offset, tests-hold, told-by-bytes, same-numbers, any-byte, own-numbers, own-below}
 
 -- numbers in range have room in their bytes
@@ -84,6 +84,42 @@ module _ (h : Head) (at : ℕ) (le : at ≤ kind1Size) (w : PartlyIn h at) where
             (each-offset (λ p. getD (kind1Record h) p 0 < 256) (omega arith) (w .fits .n) (w .fits .k) (w .fits .d) (w .fits .node)
             (omega arith) (omega arith) (omega arith) (omega arith) (omega arith) (omega arith) i (omega arith));
       }
+
+-- where no byte is in, no number is
+pub partly-blank : (h : Head) → PartlyIn h 0 → Blank h
+partly-blank h w =
+    let none : (p : ℕ) → (1 ≤ p) × (p < kind1Size) → getD (kind1Record h) p 0 ≡ 0 = λ p l. not-in h 0 (omega arith) w p (l .0) (l .1) (omega arith) in
+    record {
+      n = none 1 (omega arith);
+      k = none 2 (omega arith);
+      d = none 3 (omega arith);
+      node = none 4 (omega arith);
+      l = omega (arith, none 5 (omega arith), none 6 (omega arith), w .fits .l);
+      batch = omega (arith, none 7 (omega arith), none 8 (omega arith), none 9 (omega arith), none 10 (omega arith), w .fits .batch);
+    }
+
+pub blank-partly : (h : Head) → Blank h → PartlyIn h 0
+blank-partly h w =
+    record {
+      fits =
+          record {
+            n = omega (arith, w .n);
+            k = omega (arith, w .k);
+            d = omega (arith, w .d);
+            node = omega (arith, w .node);
+            l = omega (arith, w .l);
+            batch = omega (arith, w .batch);
+          };
+      each = λ p lo hi. simp (le-ltb p 0 (omega arith)) (eq-eqb _ 0 (zeros p hi lo));
+    }
+  where
+    zeros : (p : ℕ) → p < kind1Size → 1 ≤ p → getD (kind1Record h) p 0 ≡ 0
+    zeros =
+        each-offset (λ p. 1 ≤ p → getD (kind1Record h) p 0 ≡ 0)
+        (λ l. absurd (omega arith))
+        (λ l. w .n) (λ l. w .k) (λ l. w .d) (λ l. w .node)
+        (λ l. omega (arith, w .l)) (λ l. omega (arith, w .l))
+        (λ l. omega (arith, w .batch)) (λ l. omega (arith, w .batch)) (λ l. omega (arith, w .batch)) (λ l. omega (arith, w .batch))
 
 -- numbers in range are those of a head that is all in
 pub all-in : (h : Head) → Kind1Numbers h → PartlyIn h kind1Size

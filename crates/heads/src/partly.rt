@@ -8,7 +8,7 @@ ghost use mathlib.Core.Logic.{_↔_};
 ghost use Prim.Native.Nat.{_≤_};
 ghost use lib.ListN.{getD, take};
 ghost use Rattle.heads.specs.Kind1.{kind1Size, kind1Record};
-ghost use Rattle.heads.specs.Steps.Partly.{Kind1Fits, PartlyIn, partlyAt, headAfter};
+ghost use Rattle.heads.specs.Steps.Partly.{Kind1Fits, Blank, PartlyIn, partlyAt, headAfter};
 
 // Every number has room in its bytes. (A batch number always has.)
 fn fits(head: Head) -> bool
@@ -41,10 +41,36 @@ fn byte_fits(head: Head, at: usize, offset: usize) -> bool
     kind1::head_byte(head, offset) == 0
 }
 
+// No number is in.
+fn blank(head: Head) -> bool
+    ensures { λ r. ⌜ (r ≡ true) ↔ Blank head ⌝ }
+{
+    let g = head.group;
+    if g.n != 0 {
+        return false;
+    }
+    if g.k != 0 {
+        return false;
+    }
+    if g.d != 0 {
+        return false;
+    }
+    if head.node != 0 {
+        return false;
+    }
+    if g.l != 0 {
+        return false;
+    }
+    head.batch == 0
+}
+
 // These can be the numbers of a head of which so many bytes are in.
 pub fn partly_in(head: Head, at: usize) -> bool
     ensures { λ r. ⌜ (r ≡ true) ↔ PartlyIn head at ⌝ }
 {
+    if at == 0 {
+        return blank(head);
+    }
     if !fits(head) {
         return false;
     }

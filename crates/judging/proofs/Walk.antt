@@ -94,18 +94,16 @@ module _ (base : ℕ) (h : Head) (T : ℕ) (ys : List ℕ) (total : T ≡ heads 
       (le-or-lt p at))
       (so-far p) (le-or-lt at p)
 
-  -- where a block is there after the record, the record is whole, and the block starts where it ends
-  at-block : (count : ℕ) → end ≤ at → 1 ≤ count → at + count * blockSize ≤ length ys → base + at ≡ kind1Size + nth * blockSize
-  at-block count done some fits =
-      let past : end < length ys = omega (arith, w) in
-      omega (arith, next-start kind1Size nth ∙ start-of-block kind1Size nth, w .whole past, w)
+  -- where bytes are there after the record, the record is whole, and a block starts where it ends
+  at-block : end ≤ at → at < length ys → base + at ≡ kind1Size + nth * blockSize
+  at-block done more = omega (arith, next-start kind1Size nth ∙ start-of-block kind1Size nth, w .whole (omega (arith, w)), w)
 
   -- past the record and the full blocks after it
-  pub beyond : (count : ℕ) → end ≤ at → SoFar base h ys at → FullBlocks at ys T nth count → SoFar base h ys (at + count * blockSize)
+  pub beyond : (next : ℕ) → end ≤ at → SoFar base h ys at → FullBlocks at ys T nth next → SoFar base h ys next
   unfolding standsAt
-  beyond count done so-far full p l =
+  beyond next done so-far full p l =
       ⊎-elim
       (λ later.
       ap (λ t. standsIn (kind1Tests h (getD ys p 0)) t (recordAt kind1Size (base + p)) (offsetAt kind1Size (base + p)) (getD ys p 0)) (sym total)
-      ∙ full-stand kind1Size base at ys T (kind1Tests h (getD ys p 0)) nth count p full (at-block count done (omega arith) (full .there)) later l)
+      ∙ full-stand kind1Size base at ys T (kind1Tests h (getD ys p 0)) nth next p full (at-block done (omega (arith, full .there))) later l)
       (so-far p) (le-or-lt at p)

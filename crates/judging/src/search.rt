@@ -24,7 +24,7 @@ fn stands_in(head: Head, letters: usize, nth: usize, offset: usize, byte: u8) ->
 }
 
 // The index of the first of these bytes that can't stand where it is, or the number of bytes: record by record, byte by byte. The first of
-// them stands at index `base` of a share with this head. Whole full blocks are stepped over.
+// them stands at index `base` of a share with this head. Full blocks are stepped over.
 pub fn first_wrong(bytes: &[u8], base: usize, head: Head, letters: usize) -> usize
     requires { ⌜ (base ≤ farthest) × (letters ≡ heads .total head) ⌝ }
     ensures { λ r. ⌜ StopsFrom base head (now (bytes .entry)) r ⌝ }
@@ -42,7 +42,7 @@ pub fn first_wrong(bytes: &[u8], base: usize, head: Head, letters: usize) -> usi
             }
             at = skipping::next_tested(bytes, letters, nth, offset + (at - start), at, end);
         }
-        at += skipping::full_blocks_from(bytes, at, letters, nth) * sizes::BLOCK_SIZE;
+        at = skipping::past_full_blocks(bytes, at, letters, nth);
     }
     at
 }

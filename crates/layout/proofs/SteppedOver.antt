@@ -29,22 +29,25 @@ zero-past T r j past within =
     either-true true = refl
     either-true false = refl
 
-pub no-letters : (T nth offset : ℕ) → Lettered T nth offset 0
-no-letters T nth offset =
+pub no-letters :
+    (T nth offset : ℕ) → (1 ≤ nth → nth * blockLetters ≤ T → offset ≤ blockLetters → offset ≡ blockLetters) → Lettered T nth offset 0
+no-letters T nth offset whole =
     record {
       few = omega arith;
       inside = λ some. absurd (omega arith);
+      whole = λ a b c. omega (arith, whole a b c);
       any = λ tests j byte lo hi. absurd (omega arith);
       filled = λ some. absurd (omega arith);
     }
 
 pub letters-behind :
     (T nth offset count : ℕ) → (nth ≡ 0 → ⊥) → nth ≤ blocks T → offset + count ≤ blockLetters → offset + count ≤ T - (nth - 1) * blockLetters
-    → Lettered T nth offset count
-letters-behind T nth offset count past within few left =
+    → (nth * blockLetters ≤ T → offset + count ≡ blockLetters) → Lettered T nth offset count
+letters-behind T nth offset count past within few left whole =
     record {
       few = omega arith;
       inside = λ some. few;
+      whole = λ a b c. whole b;
       any =
           λ tests j byte lo hi.
           stands-past-head tests T nth j byte past ∙ any-letter T (nth - 1) j byte (λ e. omega arith) (omega (arith, past)) (omega arith);
@@ -87,16 +90,27 @@ in-full tests T r (suc j) byte fits hj kind = any-letter T r (suc j) byte (λ z.
 
 -- so every byte of the full blocks stands, where block r begins at this index of the bytes and these begin at index `base` of the share
 pub full-stand :
-    (H base start : ℕ) (xs : List ℕ) (T : ℕ) (tests : List Bool) (r count p : ℕ) → FullBlocks start xs T r count → base + start ≡ H + r * blockSize
-    → start ≤ p → p < start + count * blockSize
+    (H base start : ℕ) (xs : List ℕ) (T : ℕ) (tests : List Bool) (r end p : ℕ) → FullBlocks start xs T r end → base + start ≡ H + r * blockSize
+    → start ≤ p → p < end
     → standsIn tests T (recordAt H (base + p)) (offsetAt H (base + p)) (getD xs p 0) ≡ true
-full-stand H base start xs T tests r count p w begins lo hi =
-    let full = w .full (omega arith) in
+full-stand H base start xs T tests r end p w begins lo hi =
+    let begun : start + q * blockSize < end = omega arith in
     stands-placed H tests T (suc (r + q)) j (base + p) (getD xs p 0) (omega arith) (omega arith)
-    ∙ in-full tests T (r + q) j (getD xs p 0) (omega arith) (omega arith) (λ first. let here : p ≡ start + q * blockSize = omega arith in rw here (w .kinds q (omega arith)))
+    ∙ in-full tests T (r + q) j (getD xs p 0) (w .full q begun) (omega arith) (λ first. let here : p ≡ start + q * blockSize = omega arith in rw here (w .kinds q begun))
   where
     q : ℕ
     q = (p - start) / blockSize
 
     j : ℕ
     j = (p - start) % blockSize
+
+-- none, and one more
+pub no-blocks : (start : ℕ) (xs : List ℕ) (T r : ℕ) → start ≤ length xs → FullBlocks start xs T r start
+no-blocks start xs T r h = record { on = omega arith; there = h; full = λ q l. absurd (omega arith); kinds = λ q l. absurd (omega arith) }
+
+-- so many blocks with their kind reach so far
+pub blocks-reach :
+    (start : ℕ) (xs : List ℕ) (T r count end : ℕ) → start ≤ end → end ≤ length xs → end ≤ start + count * blockSize → (r + count) * blockLetters ≤ T
+    → ((q : ℕ) → q < count → getD xs (start + q * blockSize) 0 ≡ kindFull) → FullBlocks start xs T r end
+blocks-reach start xs T r count end on there short full kinds =
+    record { on = on; there = there; full = λ q l. omega arith; kinds = λ q l. kinds q (omega arith) }

@@ -62,23 +62,24 @@ pub fn next_tested(
     past_zeros(share, past, end)
 }
 
-// How many whole full blocks with their kind follow one after another from `start` on, where block r begins: every byte of them stands.
-pub fn full_blocks_from(share: &[u8], start: usize, letters: usize, r: usize) -> usize
+// How far full blocks with their kind reach from `start` on, where block r begins, up to the last byte: every byte of them stands, also of one
+// that is cut there.
+pub fn past_full_blocks(share: &[u8], start: usize, letters: usize, r: usize) -> usize
     requires { ⌜ start ≤ length (now share) ⌝ }
-    ensures { λ count. ⌜ FullBlocks start (now (share .entry)) letters r count ⌝ }
+    ensures { λ end. ⌜ FullBlocks start (now (share .entry)) letters r end ⌝ }
 {
     let full = letters / sizes::BLOCK_LETTERS;
     if full <= r {
-        return 0;
+        return start;
     }
-    let whole = (share.len() - start) / sizes::BLOCK_SIZE;
-    let most = letters::lesser(whole, full - r);
+    let begun = (share.len() - start + (sizes::BLOCK_SIZE - 1)) / sizes::BLOCK_SIZE;
+    let most = letters::lesser(begun, full - r);
     let mut count = 0;
     while count < most {
         if share[start + count * sizes::BLOCK_SIZE] != sizes::KIND_FULL {
-            return count;
+            return start + count * sizes::BLOCK_SIZE;
         }
         count += 1;
     }
-    count
+    letters::lesser(start + most * sizes::BLOCK_SIZE, share.len())
 }

@@ -1,9 +1,11 @@
 -- Which numbers bytes lead to.
 use mathlib.Core.Path.{_≡_}
-use mathlib.Core.Bool.{false}
-use mathlib.Core.List.{[], _∷_}
-use Prim.Native.Nat.{ℕ, _≤_, _<_}
-use Rattle.records.specs.Records.{sizeFor}
+use mathlib.Core.Bool.{true, false}
+use mathlib.Core.List.{List, [], _∷_}
+use mathlib.Core.Logic.{_⊎_}
+use Prim.Native.Nat.{ℕ, _+_, _*_, _≤_, _<_}
+use lib.ListN.{length, getD}
+use Rattle.records.specs.Records.{blockLetters, blockSize, sizeFor}
 use Rattle.heads.specs.declared.Head.{Head}
 use Rattle.heads.specs.Kind1.{kind1Size, Kind1Numbers}
 use Rattle.heads.specs.Heads.{heads}
@@ -15,6 +17,13 @@ pub record Within (letters at : ℕ) : Type 0 where
   pub some : letters ≡ 0 → ⊥
   pub share : at ≤ sizeFor kind1Size letters
 
+-- of bytes that come at index `base` of a share with this head the first ones stand, and block r begins behind them, if it is a full one
+pub record Begun (base : ℕ) (h : Head) (ys : List ℕ) (start r : ℕ) : Type 0 where
+  pub within : start ≤ length ys
+  pub few : start ≤ blockLetters
+  pub before : (p : ℕ) → p < start → standsAt h (base + p) (getD ys p 0) ≡ true
+  pub block : (r + 1) * blockLetters ≤ heads .total h → base + start ≡ kind1Size + r * blockSize
+
 -- a head's numbers where so many bytes can stand
 pub record HeadAt (h : Head) (at : ℕ) : Type 0 where
   pub partly : at < kind1Size → PartlyIn h at
@@ -24,3 +33,9 @@ pub record HeadAt (h : Head) (at : ℕ) : Type 0 where
 -- some byte can't stand after so many with this head
 abbrev pub CanBeWrong : Head → ℕ → Type 0
 CanBeWrong h at = (byte : ℕ) × (byte < 256) × (standsAt (headAfter h at (byte ∷ [])) at byte ≡ false)
+
+-- bytes lead to these numbers
+pub record Led (h : Head) (at wrong : ℕ) : Type 0 where
+  pub numbers : HeadAt h at
+  pub flag : (wrong ≡ 0) ⊎ (wrong ≡ 1)
+  pub byte : (wrong ≡ 0 → ⊥) → CanBeWrong h at

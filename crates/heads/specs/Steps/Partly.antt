@@ -21,6 +21,15 @@ pub record Kind1Fits (h : Head) : Type 0 where
 abbrev pub partlyAt : Head → ℕ → ℕ → Bool
 partlyAt h at offset = cond (ltb offset at) (getD (kind1Tests h kindHead) offset true) (eqb (getD (kind1Record h) offset 0) 0)
 
+-- no number is in
+pub record Blank (h : Head) : Type 0 where
+  pub n : h .group .n ≡ 0
+  pub k : h .group .k ≡ 0
+  pub d : h .group .d ≡ 0
+  pub node : h .node ≡ 0
+  pub l : h .group .l ≡ 0
+  pub batch : h .batch ≡ 0
+
 -- bytes that can stand, so many, tell these numbers
 pub record PartlyIn (h : Head) (at : ℕ) : Type 0 where
   pub fits : Kind1Fits h

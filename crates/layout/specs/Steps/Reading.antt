@@ -12,10 +12,12 @@ pub record Copied (head : ℕ) (xs : List ℕ) (count : ℕ) (letters : List ℕ
   pub counted : length letters ≡ count
   pub copied : (i : ℕ) → i < count → getD letters i 0 ≡ letterIn head xs i
 
--- so many bytes after this one in its record are letters: any byte can stand there, and where there are any, zero up to the record's end
+-- so many bytes after this one in its record are letters, in a full block all the others: any byte can stand there, and where there are any, zero up
+-- to the record's end
 pub record Lettered (letters nth offset count : ℕ) : Type 0 where
   pub few : count ≤ blockLetters
   pub inside : 1 ≤ count → offset + count ≤ blockLetters
+  pub whole : 1 ≤ nth → nth * blockLetters ≤ letters → offset ≤ blockLetters → offset + count ≡ blockLetters
   pub any : (tests : List Bool) (j byte : ℕ) → offset < j → j ≤ offset + count → standsIn tests letters nth j byte ≡ true
   pub filled : 1 ≤ count → (tests : List Bool) (j : ℕ) → offset < j → standsIn tests letters nth j 0 ≡ true
 
@@ -31,8 +33,9 @@ pub record Skips (xs : List ℕ) (letters nth offset at end next : ℕ) : Type 0
   pub within : next ≤ end
   pub stand : (tests : List Bool) (p : ℕ) → at < p → p < next → standsIn tests letters nth (offset + (p - at)) (getD xs p 0) ≡ true
 
--- from block r, which begins at this index, so many blocks are there, full, and of that kind
-pub record FullBlocks (start : ℕ) (xs : List ℕ) (letters r count : ℕ) : Type 0 where
-  pub there : start + count * blockSize ≤ length xs
-  pub full : 1 ≤ count → (r + count) * blockLetters ≤ letters
-  pub kinds : (q : ℕ) → q < count → getD xs (start + q * blockSize) 0 ≡ kindFull
+-- from block r, which begins at this index, up to the end all bytes are of full blocks, the kinds too
+pub record FullBlocks (start : ℕ) (xs : List ℕ) (letters r end : ℕ) : Type 0 where
+  pub on : start ≤ end
+  pub there : end ≤ length xs
+  pub full : (q : ℕ) → start + q * blockSize < end → (r + q + 1) * blockLetters ≤ letters
+  pub kinds : (q : ℕ) → start + q * blockSize < end → getD xs (start + q * blockSize) 0 ≡ kindFull

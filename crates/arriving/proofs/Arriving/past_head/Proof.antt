@@ -31,12 +31,10 @@ returns-2 c =
     (not-true _ (c .if2 .taken)))
 
 good-in-requires : tie.Need-good-in-requires
-good-in-requires c κs = 
-    let s = c .before .before .before .before .before .before .before in (
-      s .pre .1,
-      past-near (s .args .self) _ _ (c .before .before .before .head-so-far .ensures) (c .before .before .total .ensures) (s .pre .0) (s .pre .1) (omega arith) (c .before .within .ensures .0 (not-false _ (c .if2 .left))),
-      c .before .before .total .ensures,
-    )
+good-in-requires c κs =
+    let s = c .before .before .before .before .before .before .before in
+    let w = c .before .within .ensures .0 (not-false _ (c .if2 .left)) in
+    (s .pre .1, w .share, c .before .before .total .ensures)
 
 add-end : tie.Need-add-end
 add-end c = 

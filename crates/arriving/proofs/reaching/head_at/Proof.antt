@@ -22,21 +22,16 @@ returns c = (
     λ w. c .partly-in .ensures .1 (w .partly (c .before .if1 .taken)),
   )
 
-total-requires : tie.Need-total-requires
-total-requires c κs = search needs
-
 within-requires : tie.Need-within-requires
-within-requires c κs = omega (arith, c .total .ensures, total-small (c .before .before .args .head))
+within-requires c κs = omega (arith, c .before .pre, total-small (c .before .args .head))
 
 returns-2 : tie.Need-returns-2
 returns-2 c = 
-    let s = c .before .before .before in
-    let long = c .before .before .if1 .left in
-    let e = c .before .total .ensures in (
-      λ yes. within-numbers (s .args .head) (s .args .at) long (omega arith) (subst (λ n. Within n (s .args .at)) e (c .within .ensures .0 yes)),
-      λ w. c .within .ensures .1 (subst (λ n. Within n (s .args .at)) (sym e) (numbers-within (s .args .head) (s .args .at) long w)),
+    let s = c .before .before in
+    let long = c .before .if1 .left in (
+      λ yes. within-numbers (s .args .head) (s .args .at) long (omega arith) (subst (λ n. Within n (s .args .at)) (s .pre) (c .within .ensures .0 yes)),
+      λ w. c .within .ensures .1 (subst (λ n. Within n (s .args .at)) (sym (s .pre)) (numbers-within (s .args .head) (s .args .at) long w)),
     )
 
 pub head-at-spec : {M : Type 1} → statement M
-head-at-spec =
-    tie.close (tie.spec partly-in-requires returns total-requires within-requires returns-2)
+head-at-spec = tie.close (tie.spec partly-in-requires returns within-requires returns-2)

@@ -10,6 +10,7 @@ use Rattle.letters.proofs.Cases.{le-or-lt}
 use Rattle.layout.proofs.Judgments.{not-both}
 use Rattle.heads.specs.Kind1.{kind1Size}
 use Rattle.heads.specs.Steps.Partly.{Kind1Fits, partlyAt}
+use Rattle.heads.proofs.FirstBytes.{blank-partly, partly-blank}
 use Rattle.heads.proofs.Answers.{affirmed, refuted}
 use Rattle.heads.proofs.partly.partly_in.Statement.{statement}
 use Rattle.heads.proofs.partly.partly_in.Tie as tie
@@ -20,22 +21,29 @@ Inv-loop head at offset₀ offset = (1 ≤ offset) × (offset ≤ kind1Size) × 
 abbrev μ-loop : tie.MeasureT-loop
 μ-loop head at offset₀ offset = kind1Size - offset
 
+blank-requires : tie.Need-blank-requires Inv-loop μ-loop
+blank-requires c κs = search needs
+
+returns : tie.Need-returns Inv-loop μ-loop
+returns c = let a = c .before .before .args in
+    rw (c .before .if1 .taken) (λ e. blank-partly (a .head) (c .blank .ensures .0 e), λ w. c .blank .ensures .1 (partly-blank (a .head) w))
+
 fits-requires : tie.Need-fits-requires Inv-loop μ-loop
 fits-requires c κs = search needs
 
-returns : tie.Need-returns Inv-loop μ-loop
-returns c = refuted (λ w. not-both _ (c .before .fits2 .ensures .1 (w .fits)) (not-true _ (c .if1 .taken)))
+returns-2 : tie.Need-returns-2 Inv-loop μ-loop
+returns-2 c = refuted (λ w. not-both _ (c .before .fits2 .ensures .1 (w .fits)) (not-true _ (c .if2 .taken)))
 
 loop-holds : tie.Need-loop-holds Inv-loop μ-loop
-loop-holds c = (omega arith, omega arith, c .before .fits2 .ensures .0 (not-false _ (c .if1 .left)), λ p lo hi. absurd (omega arith))
+loop-holds c = (omega arith, omega arith, c .before .fits2 .ensures .0 (not-false _ (c .if2 .left)), λ p lo hi. absurd (omega arith))
 
 byte-fits-requires : tie.Need-byte-fits-requires Inv-loop μ-loop
 byte-fits-requires c κs = c .before .loop .inv .2
 
-returns-2 : tie.Need-returns-2 Inv-loop μ-loop
-returns-2 c =
+returns-3 : tie.Need-returns-3 Inv-loop μ-loop
+returns-3 c =
     let l = c .before .before .before in
-    refuted (λ w. not-both _ (w .each (l .loop .offset) (l .loop .inv .0) (omega arith)) (sym (c .before .byte-fits .ensures) ∙ not-true _ (c .if2 .taken)))
+    refuted (λ w. not-both _ (w .each (l .loop .offset) (l .loop .inv .0) (omega arith)) (sym (c .before .byte-fits .ensures) ∙ not-true _ (c .if3 .taken)))
 
 add-offset : tie.Need-add-offset Inv-loop μ-loop
 add-offset c = omega arith
@@ -53,12 +61,12 @@ loop-again c =
           ⊎-elim
           (λ last.
           let e : p ≡ l .loop .offset = omega arith in
-          rw e (sym (c .before .byte-fits .ensures) ∙ not-false _ (c .if2 .left)))
+          rw e (sym (c .before .byte-fits .ensures) ∙ not-false _ (c .if3 .left)))
           (l .loop .inv .3 p lo) (le-or-lt (l .loop .offset) p),
     )
 
-returns-3 : tie.Need-returns-3 Inv-loop μ-loop
-returns-3 c = let i = c .before .loop .inv in affirmed (record { fits = i .2; each = λ p lo hi. i .3 p lo (omega arith) })
+returns-4 : tie.Need-returns-4 Inv-loop μ-loop
+returns-4 c = let i = c .before .loop .inv in affirmed (record { fits = i .2; each = λ p lo hi. i .3 p lo (omega arith) })
 
 pub partly-in-spec : {M : Type 1} → statement M
 partly-in-spec =
@@ -66,12 +74,14 @@ partly-in-spec =
     (tie.spec
     Inv-loop
     μ-loop
-    fits-requires
+    blank-requires
     returns
+    fits-requires
+    returns-2
     loop-holds
     byte-fits-requires
-    returns-2
+    returns-3
     add-offset
     loop-less
     loop-again
-    returns-3)
+    returns-4)

@@ -96,24 +96,18 @@ loop-again c =
           (sym (c .before .before .stands-in .ensures) ∙ not-false _ (c .before .if1 .left)) k,
     )
 
-full-blocks-from-requires :
-    tie.Need-full-blocks-from-requires Inv-loop μ-loop Inv-records μ-records
-full-blocks-from-requires c κs = omega (arith, c .before .loop .inv .0)
-
-mul-at : tie.Need-mul-at Inv-loop μ-loop Inv-records μ-records
-mul-at c = omega (arith, c .full-blocks-from .ensures .there)
-
-add-at : tie.Need-add-at Inv-loop μ-loop Inv-records μ-records
-add-at c = omega (arith, c .full-blocks-from .ensures .there)
+past-full-blocks-requires :
+    tie.Need-past-full-blocks-requires Inv-loop μ-loop Inv-records μ-records
+past-full-blocks-requires c κs = omega (arith, c .before .loop .inv .0)
 
 records-less : tie.Need-records-less Inv-loop μ-loop Inv-records μ-records
-records-less c = omega (arith, c .before .before .loop .inv .0)
+records-less c = omega (arith, c .before .before .loop .inv .0, c .past-full-blocks .ensures .on)
 
 records-again : tie.Need-records-again Inv-loop μ-loop Inv-records μ-records
 records-again c =
     let l = c .before .before in
     let s = l .before .before .before .before .before .before .before .before in
-    let f = c .full-blocks-from .ensures in
+    let f = c .past-full-blocks .ensures in
     (f .there, beyond _ _ _ _ (s .pre .1) _ _ _ _ _ (l .loop .inv .0) _ (c .before .loop-test .left) (l .loop .inv .1) f)
 
 returns : tie.Need-returns Inv-loop μ-loop Inv-records μ-records
@@ -161,9 +155,7 @@ first-wrong-spec =
     next-tested-requires
     loop-less
     loop-again
-    full-blocks-from-requires
-    mul-at
-    add-at
+    past-full-blocks-requires
     records-less
     records-again
     returns

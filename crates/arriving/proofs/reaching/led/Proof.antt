@@ -1,0 +1,41 @@
+-- `reaching::led` meets its contract: the tests are the definition's own.
+use mathlib.Core.Logic.{inl, inr, ⊎-elim}
+use native.Mathlib.Omega.{arith}
+use borrow.Author.Tests.{not-true, not-false}
+use Rattle.layout.proofs.Judgments.{not-both}
+use Rattle.heads.proofs.Answers.{affirmed, refuted}
+use borrow.Author.Needs.{needs}
+use Rattle.arriving.proofs.reaching.led.Statement.{statement}
+use Rattle.arriving.proofs.reaching.led.Tie as tie
+
+head-at-requires : tie.Need-head-at-requires
+head-at-requires c κs = search needs
+
+returns : tie.Need-returns
+returns c = refuted (λ w. not-both _ (c .before .head-at .ensures .1 (w .numbers)) (not-true _ (c .if1 .taken)))
+
+returns-2 : tie.Need-returns-2
+returns-2 c = affirmed (record { numbers = c .before .before .head-at .ensures .0 (not-false _ (c .before .if1 .left)); flag = inl (c .if2 .taken); byte = λ some. absurd (some (c .if2 .taken)) })
+
+returns-3 : tie.Need-returns-3
+returns-3 c = refuted (λ w. ⊎-elim (λ none. omega arith) (λ one. omega arith) (w .flag))
+
+can-be-wrong-requires : tie.Need-can-be-wrong-requires
+can-be-wrong-requires c κs = c .before .before .before .head-at .ensures .0 (not-false _ (c .before .before .if1 .left))
+
+returns-4 : tie.Need-returns-4
+returns-4 c = 
+    let some = c .before .before .if2 .left in (
+      λ e.
+          record {
+            numbers = c .before .before .before .before .head-at .ensures .0 (not-false _ (c .before .before .before .if1 .left));
+            flag = inr (omega (arith, some));
+            byte = λ n. c .can-be-wrong .ensures .0 e;
+          },
+      λ w. c .can-be-wrong .ensures .1 (w .byte some),
+    )
+
+pub led-spec : {M : Type 1} → statement M
+led-spec =
+    tie.close
+    (tie.spec head-at-requires returns returns-2 returns-3 can-be-wrong-requires returns-4)
