@@ -1,42 +1,60 @@
 -- Taking bytes where the head is in: it changes no more, and where its numbers are no share's, no bytes lead there.
 use mathlib.Core.Path.{_≡_, sym, ap, subst, _∙_}
 use mathlib.Core.List.{List}
-use Prim.Native.Nat.{ℕ, _+_, _^_, _≤_, _<_}
-use lib.ListN.{length, take}
+use Prim.Native.Nat.{ℕ, _+_, _-_, _≤_, _<_}
+use native.Mathlib.Omega.{arith}
+use lib.ListN.{length, take, drop}
 use Rattle.heads.specs.declared.Head.{Head}
 use Rattle.heads.specs.Kind1.{kind1Size}
 use Rattle.heads.specs.Heads.{heads}
 use Rattle.heads.specs.Steps.Partly.{headAfter}
-use Rattle.judging.specs.Steps.Search.{farthest, StopsFrom}
+use Rattle.judging.specs.Steps.Search.{StopsFrom}
 use Rattle.arriving.specs.declared.Arriving.{Arriving}
 use Rattle.arriving.specs.States.{stateWith, headSoFar, Leads}
 use Rattle.arriving.specs.Calls.{Takes}
-use Rattle.arriving.specs.Steps.Reaching.{Within, HeadAt}
+use Rattle.arriving.specs.Steps.Reaching.{Within, Stepped, HeadAt, PastHead}
 use Rattle.arriving.proofs.BytesBehind.{whole-grown}
-use Rattle.arriving.proofs.Led.{known-numbers, known-right}
-use Rattle.arriving.proofs.Near.{near, within-numbers, numbers-within}
+use Rattle.arriving.proofs.Led.{numbers-led, leads-right}
+use Rattle.arriving.proofs.Stepping.{all-stepped, goes-on}
+use Rattle.arriving.proofs.Near.{within-numbers, numbers-within}
 use Rattle.arriving.proofs.Taking.{takes-all, takes-some}
 
-module _ (s : Arriving) (h : Head) (T : ℕ) (e : h ≡ headSoFar s) (total : T ≡ heads .total h) (none : s .wrong ≡ 0) (long : kind1Size ≤ s .at) where
-  pub led-within : Leads s → Within T (s .at)
-  led-within led = subst (λ n. Within n (s .at)) (sym total) (numbers-within h (s .at) long (known-numbers s h e led))
+-- where bytes lead there, the share has so many letters and bytes
+pub led-within : (s : Arriving) (T : ℕ) → kind1Size ≤ s .at → T ≡ heads .total (headSoFar s) → Leads s → Within T (s .at)
+led-within s T long total led = subst (λ n. Within n (s .at)) (sym total) (numbers-within (headSoFar s) (s .at) long (numbers-led s led))
 
-  module _ (small : s .batch < 2 ^ 32) (w : Within T (s .at)) where
-    numbers : HeadAt h (s .at)
-    numbers = within-numbers h (s .at) long (rw e small) (subst (λ n. Within n (s .at)) total w)
+module _ (s : Arriving) (T : ℕ) (w : PastHead s T) where
+  numbers : HeadAt (headSoFar s) (s .at)
+  numbers = within-numbers (headSoFar s) (s .at) (w .long) (w .small) (subst (λ n. Within n (s .at)) (w .total) (w .within))
 
-    pub past-near : s .at ≤ farthest
-    past-near = near h (s .at) numbers
+  leads : Leads s
+  leads = leads-right s numbers (w .none)
 
-    leads : Leads s
-    leads = known-right s h e numbers none
+  grown : (ys : List ℕ) → headSoFar s ≡ headAfter (headSoFar s) (s .at) ys
+  grown ys = sym (whole-grown (headSoFar s) (s .at) (numbers .whole (w .long)) (w .long) ys)
 
-    grown : (ys : List ℕ) → h ≡ headAfter (headSoFar s) (s .at) ys
-    grown ys = sym (ap (λ g. headAfter g (s .at) ys) (sym e) ∙ whole-grown h (s .at) (numbers .whole long) long ys)
+  module _ (ys : List ℕ) (q : ℕ) (stops : StopsFrom (s .at) (headSoFar s) ys q) where
+    pub past-all : q ≡ length ys → Takes s ys (stateWith (s .at + q) 0 (headSoFar s))
+    past-all all = takes-all s ys leads (w .none) q (headSoFar s) (grown ys) stops all
 
-    module _ (ys : List ℕ) (q : ℕ) (stops : StopsFrom (s .at) h ys q) (r : Arriving) where
-      pub past-all : q ≡ length ys → r ≡ stateWith (s .at + q) 0 h → Takes s ys r
-      past-all all is = subst (Takes s ys) (sym is) (takes-all s ys leads none q h (grown ys) stops all)
+    pub past-some : q < length ys → Takes s ys (stateWith (s .at + q) 1 (headSoFar s))
+    past-some some = takes-some s ys leads (w .none) q (headSoFar s) (grown ys) stops some (headSoFar s) (grown (take q ys))
 
-      pub past-some : q < length ys → r ≡ stateWith (s .at + q) 1 h → Takes s ys r
-      past-some some is = subst (Takes s ys) (sym is) (takes-some s ys leads none q h (grown ys) stops some h (grown (take q ys)))
+  -- all bytes are stepped over
+  pub past-stepped : (ys : List ℕ) (q : ℕ) → Stepped (s .at) T ys q → q ≡ length ys → Takes s ys (stateWith (s .at + q) (s .wrong) (headSoFar s))
+  past-stepped ys q stepped all =
+      subst (λ flag. Takes s ys (stateWith (s .at + q) flag (headSoFar s))) (sym (w .none))
+      (past-all ys q (all-stepped (s .at) T (headSoFar s) ys q (w .total) stepped all) all)
+
+  -- or the first ones, and the search goes on
+  module _ (ys : List ℕ) (n q : ℕ) (stepped : Stepped (s .at) T ys n) (h : Head) (e : h ≡ headSoFar s)
+      (stops : StopsFrom (s .at + n) h (take (length ys - n) (drop n ys)) q) where
+    all-stops : StopsFrom (s .at) (headSoFar s) ys (n + q)
+    all-stops = goes-on (s .at) (headSoFar s) ys n q (stepped .within) (stepped .stand (headSoFar s) (w .total)) (rw (sym e) stops)
+
+    pub searched-all : n + q ≡ length ys → (r : Arriving) → r ≡ stateWith (s .at + (n + q)) 0 h → Takes s ys r
+    searched-all all r is = subst (Takes s ys) (sym (is ∙ ap (stateWith (s .at + (n + q)) 0) e)) (past-all ys (n + q) all-stops all)
+
+    pub searched-some : (n + q ≡ length ys → ⊥) → (r : Arriving) → r ≡ stateWith (s .at + (n + q)) 1 h → Takes s ys r
+    searched-some more r is =
+        subst (Takes s ys) (sym (is ∙ ap (stateWith (s .at + (n + q)) 1) e)) (past-some ys (n + q) all-stops (omega (arith, all-stops .within, more)))

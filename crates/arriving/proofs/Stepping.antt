@@ -17,7 +17,7 @@ use Rattle.heads.specs.declared.Head.{Head}
 use Rattle.heads.specs.Kind1.{kind1Size, kind1Tests}
 use Rattle.heads.specs.Heads.{heads}
 use Rattle.judging.specs.Steps.Search.{standsAt, farthest, StopsFrom}
-use Rattle.arriving.specs.Steps.Reaching.{Begun}
+use Rattle.arriving.specs.Steps.Reaching.{Stepped}
 
 -- where a byte past the head stands
 record Placed (nth offset at : ℕ) : Type 0 where
@@ -34,7 +34,35 @@ placed nth offset at long en eo = by nth (rw (en, eo) (found kind1Size at))
     by zero w = absurd (omega (arith, w .0, w .1))
     by (suc r) w = record { past = omega arith; begins = omega (arith, w .1); starts = w .1; size = refl; within = w .0 }
 
-module _ (h : Head) (ys : List ℕ) (T nth offset at : ℕ) (long : kind1Size ≤ at) (total : T ≡ heads .total h)
+-- of bytes that come at index `at` the first ones stand, and block r begins behind them, if it is a full one
+record Begun (at T : ℕ) (ys : List ℕ) (start r : ℕ) : Type 0 where
+  within : start ≤ length ys
+  few : start ≤ blockLetters
+  before : (h : Head) → T ≡ heads .total h → (p : ℕ) → p < start → standsAt h (at + p) (getD ys p 0) ≡ true
+  block : (r + 1) * blockLetters ≤ T → at + start ≡ kind1Size + r * blockSize
+
+-- full blocks behind them
+module _ (at T : ℕ) (ys : List ℕ) (start r next : ℕ) (b : Begun at T ys start r) (w : FullBlocks start ys T r next) where
+  full-stands : (h : Head) → T ≡ heads .total h → (p : ℕ) → p < next → standsAt h (at + p) (getD ys p 0) ≡ true
+  unfolding standsAt
+  full-stands h total p l =
+      ⊎-elim
+      (λ later.
+      ap (λ t. standsIn (kind1Tests h (getD ys p 0)) t (recordAt kind1Size (at + p)) (offsetAt kind1Size (at + p)) (getD ys p 0)) (sym total)
+      ∙ full-stand kind1Size at start ys T (kind1Tests h (getD ys p 0)) r next p w (b .block (omega (arith, w .full 0 (omega arith)))) later l)
+      (b .before h total p) (le-or-lt start p)
+
+  -- they end no farther than the share does
+  still-near : at ≤ sizeFor kind1Size T → T < totalLimit → at + next ≤ farthest
+  still-near near small =
+      ⊎-elim (λ none. omega (arith, b .few))
+      (λ some. omega (arith, b .few, w .full ((next - 1 - start) / blockSize) (omega arith)))
+      (le-or-lt next start)
+
+  full-stepped : at ≤ sizeFor kind1Size T → T < totalLimit → Stepped at T ys next
+  full-stepped near small = record { within = w .there; near = still-near near small; stand = full-stands }
+
+module _ (ys : List ℕ) (T nth offset at : ℕ) (long : kind1Size ≤ at) (near : at ≤ sizeFor kind1Size T) (small : T < totalLimit)
     (en : nth ≡ recordAt kind1Size at) (eo : offset ≡ offsetAt kind1Size at) where
   p : Placed nth offset at
   p = placed nth offset at long en eo
@@ -42,55 +70,41 @@ module _ (h : Head) (ys : List ℕ) (T nth offset at : ℕ) (long : kind1Size �
   pub past-first : 1 ≤ nth
   past-first = p .past
 
-  -- at a record's start nothing is stepped over
-  pub at-start : offset ≡ 0 → Begun at h ys 0 (nth - 1)
-  at-start first =
-      record { within = omega arith; few = omega arith; before = λ q l. absurd (omega arith); block = λ full. omega (arith, p .begins) }
+  -- at a record's start there are no letters before the blocks
+  pub from-start : offset ≡ 0 → (next : ℕ) → FullBlocks 0 ys T (nth - 1) next → Stepped at T ys next
+  from-start first next w =
+      full-stepped at T ys 0 (nth - 1) next
+      (record { within = omega arith; few = omega arith; before = λ h e q l. absurd (omega arith); block = λ full. omega (arith, p .begins) })
+      w near small
 
-  -- else letters are
+  -- else there are
   module _ (some : offset ≡ 0 → ⊥) (count : ℕ) (w : Lettered T nth (offset - 1) count) where
-    letters-stand : (q : ℕ) → q < count → standsAt h (at + q) (getD ys q 0) ≡ true
+    letters-stand : (h : Head) → T ≡ heads .total h → (q : ℕ) → q < count → standsAt h (at + q) (getD ys q 0) ≡ true
     unfolding standsAt
-    letters-stand q l =
+    letters-stand h total q l =
         ap (λ t. standsIn (kind1Tests h (getD ys q 0)) t (recordAt kind1Size (at + q)) (offsetAt kind1Size (at + q)) (getD ys q 0)) (sym total)
         ∙ stands-placed kind1Size (kind1Tests h (getD ys q 0)) T nth (offset + q) (at + q) (getD ys q 0)
         (omega (arith, p .size, w .inside (omega arith), some)) (omega (arith, p .starts))
         ∙ w .any (kind1Tests h (getD ys q 0)) (offset + q) (getD ys q 0) (omega (arith, some)) (omega (arith, some))
 
-    pub all-letters : length ys ≤ count → StopsFrom at h ys (length ys)
-    all-letters all = record { within = omega arith; before = λ q l. letters-stand q (omega arith); wrong = λ l. absurd (omega arith) }
+    pub all-letters : length ys ≤ count → Stepped at T ys (length ys)
+    all-letters all =
+        record { within = omega arith; near = omega (arith, w .few); stand = λ h total q l. letters-stand h total q (omega arith) }
 
-    pub past-letters : count ≤ length ys → Begun at h ys count nth
-    past-letters more =
-        record {
+    pub past-letters : count ≤ length ys → (next : ℕ) → FullBlocks count ys T nth next → Stepped at T ys next
+    past-letters more next f =
+        full-stepped at T ys count nth next
+        (record {
           within = more;
           few = w .few;
           before = letters-stand;
-          block = λ full. omega (arith, p .begins, w .whole (p .past) (omega (arith, total)) (omega (arith, p .within)), some, p .past);
-        }
+          block = λ full. omega (arith, p .begins, w .whole (p .past) (omega arith) (omega (arith, p .within)), some, p .past);
+        })
+        f near small
 
--- full blocks
-module _ (base : ℕ) (h : Head) (T : ℕ) (ys : List ℕ) (start r next : ℕ) (total : T ≡ heads .total h) (b : Begun base h ys start r) (w : FullBlocks start ys T r next) where
-  pub full-so-far : (p : ℕ) → p < next → standsAt h (base + p) (getD ys p 0) ≡ true
-  unfolding standsAt
-  full-so-far p l =
-      ⊎-elim
-      (λ later.
-      ap (λ t. standsIn (kind1Tests h (getD ys p 0)) t (recordAt kind1Size (base + p)) (offsetAt kind1Size (base + p)) (getD ys p 0)) (sym total)
-      ∙ full-stand kind1Size base start ys T (kind1Tests h (getD ys p 0)) r next p w (b .block (omega (arith, total, w .full 0 (omega arith)))) later l)
-      (b .before p) (le-or-lt start p)
-
-  -- they end no farther than the share does
-  pub still-near : base ≤ sizeFor kind1Size T → T < totalLimit → base + next ≤ farthest
-  still-near near small =
-      ⊎-elim (λ none. omega (arith, b .few))
-      (λ some.
-      let q : (next - 1 - start) / blockSize ≤ next = omega arith in
-      omega (arith, b .few, w .full ((next - 1 - start) / blockSize) (omega arith)))
-      (le-or-lt next start)
-
-  pub all-full : next ≡ length ys → StopsFrom base h ys next
-  all-full all = record { within = w .there; before = full-so-far; wrong = λ l. absurd (omega arith) }
+-- all of them
+pub all-stepped : (at T : ℕ) (h : Head) (ys : List ℕ) (count : ℕ) → T ≡ heads .total h → Stepped at T ys count → count ≡ length ys → StopsFrom at h ys count
+all-stepped at T h ys count total w all = record { within = w .within; before = w .stand h total; wrong = λ l. absurd (omega arith) }
 
 -- the search goes on behind bytes that stand
 pub goes-on :

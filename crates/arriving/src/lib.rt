@@ -16,6 +16,7 @@ ghost use Prim.Native.Nat.{_^_, _≤_, _<_};
 ghost use Rattle.heads.specs.Kind1.{kind1Size};
 ghost use Rattle.judging.specs.Judging.{judgmentNumber, headOf};
 ghost use Rattle.arriving.specs.States.{headSoFar, stateWith, stateOf, Leads};
+ghost use Rattle.arriving.specs.Steps.Reaching.{Stepped, PastHead};
 ghost use Rattle.arriving.specs.Calls.{Takes, JudgesState, Announces, comingNumber, comingHead, comingBytes};
 
 // The state. It is a function of all bytes so far, `stateOf` in specs/, and of nothing else.
@@ -118,12 +119,27 @@ impl Arriving {
             return self;
         }
         let at = self.at;
-        let head = self.head_so_far();
-        let letters = kind1::total(head);
+        let letters = kind1::total(self.head_so_far());
         if !reaching::within(letters, at) {
             return self;
         }
-        let good = reaching::good_in(bytes, at, head, letters);
+        let start = reaching::stepped(bytes, at, letters);
+        if start == bytes.len() {
+            let mut next = self;
+            next.at = at + start;
+            return next;
+        }
+        self.searched(bytes, start, letters)
+    }
+
+    // The same where the first `start` bytes are stepped over: the search tells how far the others stand.
+    fn searched(self, bytes: &[u8], start: usize, letters: usize) -> Arriving
+        requires { ⌜ PastHead self letters × Stepped (self .at) letters (now bytes) start ⌝ }
+        ensures { λ r. ⌜ Takes self (now (bytes .entry)) r ⌝ }
+    {
+        let at = self.at;
+        let head = self.head_so_far();
+        let good = start + search::first_wrong(&bytes[start..], at + start, head, letters);
         let end = at + good;
         if good == bytes.len() {
             return state_with(end, 0, head);

@@ -14,8 +14,8 @@ ghost use Rattle.records.specs.Records.{totalLimit, sizeFor};
 ghost use Rattle.heads.specs.Kind1.{kind1Size};
 ghost use Rattle.heads.specs.Heads.{heads};
 ghost use Rattle.heads.specs.Steps.Partly.{headAfter};
-ghost use Rattle.judging.specs.Steps.Search.{standsAt, StopsFrom};
-ghost use Rattle.arriving.specs.Steps.Reaching.{Within, Begun, HeadAt, CanBeWrong, Led};
+ghost use Rattle.judging.specs.Steps.Search.{standsAt};
+ghost use Rattle.arriving.specs.Steps.Reaching.{Within, Stepped, HeadAt, CanBeWrong, Led};
 
 // So many bytes can stand in a share of so many letters, with its head in. (Where a head's numbers are out of range, there are none.)
 pub fn within(letters: usize, at: usize) -> bool
@@ -39,34 +39,22 @@ fn head_at(head: Head, letters: usize, at: usize) -> bool
     within(letters, at)
 }
 
-// How many of these bytes can stand where the first `start` do: full blocks are stepped over from there on, where block r begins if it is a
-// full one, and if bytes are left, the search tells.
-fn good_from(bytes: &[u8], start: usize, r: usize, at: usize, head: Head, letters: usize) -> usize
-    requires { ⌜ (at ≤ sizeFor kind1Size letters) × (letters ≡ heads .total head) × Begun at head (now bytes) start r ⌝ }
-    ensures { λ good. ⌜ StopsFrom at head (now (bytes .entry)) good ⌝ }
-{
-    let next = skipping::past_full_blocks(bytes, start, letters, r);
-    if next == bytes.len() {
-        return next;
-    }
-    next + search::first_wrong(&bytes[next..], at + next, head, letters)
-}
-
-// How many of these bytes, which come after so many with this head in, can stand. Letters are stepped over: there is nothing to look at.
-pub fn good_in(bytes: &[u8], at: usize, head: Head, letters: usize) -> usize
-    requires { ⌜ (kind1Size ≤ at) × (at ≤ sizeFor kind1Size letters) × (letters ≡ heads .total head) ⌝ }
-    ensures { λ r. ⌜ StopsFrom at head (now (bytes .entry)) r ⌝ }
+// How many of these bytes, which come after so many in a share of so many letters, are letters and full blocks with their kind: they stand,
+// and but for a block's kind there is nothing to look at. T alone tells them: a head that were handed on would be laid out for nothing.
+pub fn stepped(bytes: &[u8], at: usize, letters: usize) -> usize
+    requires { ⌜ (kind1Size ≤ at) × (at ≤ sizeFor kind1Size letters) × (letters < totalLimit) ⌝ }
+    ensures { λ r. ⌜ Stepped at letters (now (bytes .entry)) r ⌝ }
 {
     let nth = sizes::record_at(kind1::SIZE, at);
     let offset = sizes::offset_at(kind1::SIZE, at);
     if offset == 0 {
-        return good_from(bytes, 0, nth - 1, at, head, letters);
+        return skipping::past_full_blocks(bytes, 0, letters, nth - 1);
     }
     let left = skipping::letters_after(letters, nth, offset - 1);
     if bytes.len() <= left {
         return bytes.len();
     }
-    good_from(bytes, left, nth, at, head, letters)
+    skipping::past_full_blocks(bytes, left, letters, nth)
 }
 
 // The head's numbers once these bytes have come after so many.

@@ -3,26 +3,27 @@ use mathlib.Core.Path.{_≡_}
 use mathlib.Core.Bool.{true, false}
 use mathlib.Core.List.{List, [], _∷_}
 use mathlib.Core.Logic.{_⊎_}
-use Prim.Native.Nat.{ℕ, _+_, _*_, _≤_, _<_}
+use Prim.Native.Nat.{ℕ, _+_, _^_, _≤_, _<_}
 use lib.ListN.{length, getD}
-use Rattle.records.specs.Records.{blockLetters, blockSize, sizeFor}
+use Rattle.records.specs.Records.{sizeFor}
 use Rattle.heads.specs.declared.Head.{Head}
 use Rattle.heads.specs.Kind1.{kind1Size, Kind1Numbers}
 use Rattle.heads.specs.Heads.{heads}
 use Rattle.heads.specs.Steps.Partly.{PartlyIn, headAfter}
-use Rattle.judging.specs.Steps.Search.{standsAt}
+use Rattle.judging.specs.Steps.Search.{standsAt, farthest}
+use Rattle.arriving.specs.declared.Arriving.{Arriving}
+use Rattle.arriving.specs.States.{headSoFar}
 
 -- so many bytes can stand in a share of so many letters, of which it has some
 pub record Within (letters at : ℕ) : Type 0 where
   pub some : letters ≡ 0 → ⊥
   pub share : at ≤ sizeFor kind1Size letters
 
--- of bytes that come at index `base` of a share with this head the first ones stand, and block r begins behind them, if it is a full one
-pub record Begun (base : ℕ) (h : Head) (ys : List ℕ) (start r : ℕ) : Type 0 where
-  pub within : start ≤ length ys
-  pub few : start ≤ blockLetters
-  pub before : (p : ℕ) → p < start → standsAt h (base + p) (getD ys p 0) ≡ true
-  pub block : (r + 1) * blockLetters ≤ heads .total h → base + start ≡ kind1Size + r * blockSize
+-- of bytes that come at this index of a share of so many letters these first ones stand, whatever its head
+pub record Stepped (at letters : ℕ) (ys : List ℕ) (count : ℕ) : Type 0 where
+  pub within : count ≤ length ys
+  pub near : at + count ≤ farthest
+  pub stand : (h : Head) → letters ≡ heads .total h → (p : ℕ) → p < count → standsAt h (at + p) (getD ys p 0) ≡ true
 
 -- a head's numbers where so many bytes can stand
 pub record HeadAt (h : Head) (at : ℕ) : Type 0 where
@@ -39,3 +40,11 @@ pub record Led (h : Head) (at wrong : ℕ) : Type 0 where
   pub numbers : HeadAt h at
   pub flag : (wrong ≡ 0) ⊎ (wrong ≡ 1)
   pub byte : (wrong ≡ 0 → ⊥) → CanBeWrong h at
+
+-- bytes lead to this state, their head is in, and all of them stand
+pub record PastHead (s : Arriving) (letters : ℕ) : Type 0 where
+  pub small : s .batch < 2 ^ 32
+  pub none : s .wrong ≡ 0
+  pub long : kind1Size ≤ s .at
+  pub total : letters ≡ heads .total (headSoFar s)
+  pub within : Within letters (s .at)
