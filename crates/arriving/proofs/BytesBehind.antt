@@ -1,13 +1,13 @@
 -- The bytes behind a head's numbers: which numbers bytes that can stand have, that such numbers have such bytes, and how they grow.
 use mathlib.Core.Path.{_≡_, refl, sym, ap, subst, _∙_}
 use mathlib.Core.Bool.{Bool, true, false, cond}
-use mathlib.Core.List.{List, [], _∷_, _++_, append-nil}
+use mathlib.Core.List.{List, [], _∷_, _++_}
 use mathlib.Core.Logic.{⊎-elim}
 use Prim.Native.Nat.{ℕ, zero, suc, _+_, _-_, _*_, _/_, _%_, _≤_, _<_}
 use native.Mathlib.Omega.{arith}
 use lib.Dec.{ltb, eqb}
-use lib.ListN.{length, getD, take, length-append, length-take, List·getD-append}
-use lib.Seq.{getD-take, take-all}
+use lib.ListN.{length, getD, take, length-append, List·getD-append}
+use lib.Seq.{take-all}
 use borrow.Author.Tests.{eqb-true}
 use Rattle.letters.specs.Lanes.{Bytes}
 use Rattle.letters.specs.Places.{both, either}
@@ -16,8 +16,6 @@ use Rattle.group.specs.Ranges.{longest}
 use Rattle.group.proofs.InRange.{between-true}
 use Rattle.records.specs.Records.{blockLetters, blockSize, endSize, blocks, sizeFor, endRecord, pair}
 use Rattle.records.specs.Steps.Places.{blockKind, blockStands, endStands, recordStands}
-use Rattle.layout.specs.Laws.{Passes}
-use Rattle.layout.specs.Steps.Stands.{stands}
 use Rattle.layout.proofs.Stands.{stands-head}
 use Rattle.layout.proofs.Accepted.{Accepted, accepted-next, passes}
 use Rattle.layout.proofs.Completing.{bytes-next, next-in-records, at-most}

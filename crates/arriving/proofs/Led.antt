@@ -1,11 +1,10 @@
 -- Which states bytes lead to: exactly those whose numbers are a head's where so many bytes can stand, with a wrong byte only where some byte
 -- can be wrong. So whether bytes lead to a state is decided from its numbers.
 use mathlib.Core.Path.{_≡_, refl, sym, ap, ap₂, subst, _∙_}
-use mathlib.Core.Bool.{false, cond}
+use mathlib.Core.Bool.{cond}
 use mathlib.Core.List.{List, [], _∷_, _++_}
 use mathlib.Core.Logic.{inl, inr, ⊎-elim}
 use Prim.Native.Nat.{ℕ, suc, _+_, _^_, _≤_, _<_}
-use native.Mathlib.Numerals.{add-one}
 use native.Mathlib.Omega.{arith}
 use lib.Dec.{ltb}
 use lib.ListN.{length, getD, take, length-append}
@@ -139,12 +138,16 @@ module _ (s : Arriving) (led : Leads s) where
       let q = s .at in
       let byte = getD xs q 0 in (
         w .one,
-        (byte, led .1 .below q (w .past), ap (λ g. standsAt g q byte) (behind-grown (take q xs) (headSoFar s) q (w .behind) (byte ∷ []))
-            ∙ ap (standsAt (heads .headIn (take q xs ++ byte ∷ [])) q) (sym (getD-at (take q xs) byte [] 0 q (w .behind .long)))
-            ∙ sym (stands-at (take q xs ++ byte ∷ []) q)
-            ∙ ap (λ ys. stands heads ys q) (sym (take-suc xs q 0 (w .past)))
-            ∙ stands-take heads lawful xs (suc q) q (omega arith)
-            ∙ w .stops .wrong (w .past)),
+        (
+          byte,
+          led .1 .below q (w .past),
+          ap (λ g. standsAt g q byte) (behind-grown (take q xs) (headSoFar s) q (w .behind) (byte ∷ []))
+              ∙ ap (standsAt (heads .headIn (take q xs ++ byte ∷ [])) q) (sym (getD-at (take q xs) byte [] 0 q (w .behind .long)))
+              ∙ sym (stands-at (take q xs ++ byte ∷ []) q)
+              ∙ ap (λ ys. stands heads ys q) (sym (take-suc xs q 0 (w .past)))
+              ∙ stands-take heads lawful xs (suc q) q (omega arith)
+              ∙ w .stops .wrong (w .past),
+        ),
       )
 
   pub flag-small : s .wrong ≤ 1

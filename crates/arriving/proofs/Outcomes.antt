@@ -23,7 +23,7 @@ use Rattle.judging.specs.Steps.Search.{judgmentAt}
 use Rattle.judging.proofs.Outcomes.{one-judgment, same-judging}
 use Rattle.arriving.specs.declared.Arriving.{Arriving}
 use Rattle.arriving.specs.declared.Coming.{Coming}
-use Rattle.arriving.specs.States.{headSoFar, stateOf, Leads}
+use Rattle.arriving.specs.States.{headSoFar, Leads}
 use Rattle.arriving.specs.Calls.{Takes, JudgesState, Announces, comingNumber, comingHead, comingBytes}
 use Rattle.arriving.proofs.Led.{led-right}
 use Rattle.arriving.proofs.Telling.{of-bytes, wrong-neither, share-told}

@@ -15,7 +15,6 @@ use Rattle.judging.specs.Steps.Search.{Stops, StopsFrom}
 use Rattle.arriving.specs.declared.Arriving.{Arriving}
 use Rattle.arriving.specs.States.{stateWith, headSoFar, stateOf, Leads}
 use Rattle.arriving.specs.Calls.{Takes}
-use Rattle.arriving.proofs.BytesBehind.{Behind}
 use Rattle.arriving.proofs.Led.{all-stand, one-wrong, led-right, led-wrong, behind-grown, stops-later}
 
 -- a state to which no bytes lead stays as it is

@@ -1,5 +1,5 @@
 -- What is told from a state is what the bytes are that lead there.
-use mathlib.Core.Path.{_≡_, refl, sym, ap, ap₂, subst, _∙_}
+use mathlib.Core.Path.{_≡_, refl, sym, ap, subst, _∙_}
 use mathlib.Core.List.{List, _++_}
 use mathlib.Core.Logic.{⊎-elim}
 use Prim.Native.Nat.{ℕ, _+_, _≤_, _<_}
@@ -10,7 +10,7 @@ use Rattle.letters.specs.Lanes.{Bytes}
 use Rattle.letters.proofs.Cases.{eq-or-ne}
 use Rattle.group.specs.declared.Refusal.{Refusal}
 use Rattle.records.specs.Records.{sizeFor}
-use Rattle.layout.specs.Layout.{sizeIn, totalIn}
+use Rattle.layout.specs.Layout.{totalIn}
 use Rattle.layout.specs.Share.{ShareOf}
 use Rattle.layout.specs.Judgment.{IsNeither}
 use Rattle.layout.proofs.Completing.{can-stand}

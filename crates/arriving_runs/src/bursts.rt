@@ -1,9 +1,9 @@
-// Bytes handed over in bursts of any lengths.
+// Bytes handed over in bursts of any lengths, some to `after` and some, through `lending`, to `take`, which must do the same.
 ghost use Prim.Native.Nat.{_≤_, _<_};
 use arriving::Arriving;
 
 // How many bytes the next burst has: `size`, or as many as are left; one where the size is 0.
-fn taken(size: usize, left: usize) -> usize
+fn next_size(size: usize, left: usize) -> usize
     requires { ⌜ 0 < left ⌝ }
     ensures { λ r. ⌜ (0 < r) × (r ≤ left) ⌝ }
 {
@@ -18,8 +18,8 @@ pub fn of_size(bytes: &[u8], size: usize) -> Arriving {
     let mut state = Arriving::start();
     let mut at = 0;
     while at < bytes.len() {
-        let count = taken(size, bytes.len() - at);
-        state = state.after(lines::part(bytes, at, count));
+        let count = next_size(size, bytes.len() - at);
+        state = lending::taken(state, lines::part(bytes, at, count));
         arriving_words::digit(state);
         state = state.after(lines::part(bytes, 0, 0));
         at += count;
@@ -32,7 +32,7 @@ pub fn of_size(bytes: &[u8], size: usize) -> Arriving {
 fn cut_at(bytes: &[u8], cut: usize, left: usize, whole: Arriving) {
     let first = Arriving::start().after(lines::part(bytes, 0, cut));
     arriving_words::digit(first);
-    let both = first.after(lines::part(bytes, cut, left));
+    let both = lending::taken(first, lines::part(bytes, cut, left));
     if !arriving_words::same(both, whole) {
         lines::say(b"!");
     }

@@ -1,5 +1,5 @@
 -- What each exported call's contract says allows one number returned and one content of each lent number and buffer.
-use mathlib.Core.Path.{_≡_, refl, ap, _∙_}
+use mathlib.Core.Path.{_≡_, refl, ap}
 use mathlib.Core.List.{List}
 use Prim.Native.Nat.{ℕ}
 use Rattle.arriving.proofs.Outcomes.{taken-once, same-number, same-coming}

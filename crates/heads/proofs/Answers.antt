@@ -1,5 +1,5 @@
 -- An answer that says yes or no to a statement.
-use mathlib.Core.Path.{_≡_, refl, sym}
+use mathlib.Core.Path.{_≡_, refl}
 use mathlib.Core.Bool.{true, false}
 use mathlib.Core.Logic.{_↔_}
 use Rattle.layout.proofs.Judgments.{not-both}

@@ -1,11 +1,10 @@
 -- A head of which the first bytes are in: its numbers are those of bytes that can stand, and these bytes are its own.
-use mathlib.Core.Path.{_≡_, refl, sym, ap, ap₂, _∙_}
-use mathlib.Core.Bool.{Bool, true, false}
-use mathlib.Core.List.{List, [], _∷_, _++_, append-nil}
-use mathlib.Core.Logic.{_↔_, ⊎-elim}
+use mathlib.Core.Path.{_≡_, refl, sym, ap, _∙_}
+use mathlib.Core.Bool.{true}
+use mathlib.Core.List.{List, [], _++_}
+use mathlib.Core.Logic.{⊎-elim}
 use Prim.Native.Nat.{ℕ, zero, suc, _-_, _≤_, _<_}
 use native.Mathlib.Omega.{arith}
-use lib.Dec.{ltb, eqb}
 use lib.ListN.{length, getD, take, List·getD-eq-default}
 use lib.Seq.{ext-getD, getD-take, length-take-le}
 use borrow.Author.Tests.{lt-ltb, le-ltb, eq-eqb, eqb-true}
@@ -15,7 +14,7 @@ use Rattle.layout.specs.Laws.{Passes}
 use Rattle.layout.proofs.LaidOut.{append-at-left, append-at-right}
 use Rattle.heads.specs.declared.Head.{Head}
 use Rattle.heads.specs.Kind1.{kindHead, kind1Size, kind1Record, Kind1Numbers, kind1In, kind1Tests, kind1}
-use Rattle.heads.specs.Steps.Partly.{Kind1Fits, Blank, PartlyIn, partlyAt, headAfter}
+use Rattle.heads.specs.Steps.Partly.{Kind1Fits, Blank, PartlyIn}
 use Rattle.heads.proofs.Kind1Laws.{each-offset, tests-hold, told-by-bytes, same-numbers, any-byte, own-numbers, own-below}
 
 -- numbers in range have room in their bytes

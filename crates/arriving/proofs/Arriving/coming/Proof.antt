@@ -34,7 +34,7 @@ size-for-requires : tie.Need-size-for-requires
 size-for-requires c κs = (omega arith, omega (arith, c .total .ensures, total-small (c .before .head-so-far .result)))
 
 returns-4 : tie.Need-returns-4
-returns-4 c = 
+returns-4 c =
     let s = c .before .before .before .before .before .before .before .before .before .args .self in
     let head = c .before .before .head-so-far .ensures in
     subst (λ h. Announces s 0 h (c .size-for .result)) (sym head)

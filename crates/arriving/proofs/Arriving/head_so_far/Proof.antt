@@ -1,6 +1,5 @@
 -- `head_so_far` meets its contract: the numbers are put together.
 use mathlib.Core.Path.{ap}
-use Rattle.heads.specs.declared.Head.{Head}
 use borrow.Author.Needs.{needs}
 use Rattle.arriving.proofs.Arriving.head_so_far.Statement.{statement}
 use Rattle.arriving.proofs.Arriving.head_so_far.Tie as tie

@@ -42,7 +42,7 @@ state-with-requires : tie.Need-state-with-requires
 state-with-requires c κs = search needs
 
 returns-3 : tie.Need-returns-3
-returns-3 c = 
+returns-3 c =
     let s = c .before .before .before .before .before .before .before .before .before .before .before .args in
     subst (Takes (s .self) (s .bytes .now)) (sym (c .state-with .ensures))
     (takes-all (s .self) (s .bytes .now) (c .before .before .before .before .before .before .before .before .before .reached .ensures .0 (not-false _ (c .before .before .before .before .before .before .before .before .if1 .left))) (omega arith) _ _
@@ -59,7 +59,7 @@ state-with-requires-2 : tie.Need-state-with-requires-2
 state-with-requires-2 c κs = search needs
 
 returns-4 : tie.Need-returns-4
-returns-4 c = 
+returns-4 c =
     let s = c .before .before .before .before .before .before .before .before .before .before .before .before .before .args in
     let w = c .before .before .before .before .first-wrong in
     subst (Takes (s .self) (s .bytes .now)) (sym (c .state-with2 .ensures))

@@ -32,7 +32,7 @@ returns-2 : tie.Need-returns-2
 returns-2 c = JudgesState.forged (λ led. not-both _ (c .before .led .ensures .1 (known-led _ _ (c .before .before .before .head-so-far .ensures) led)) (not-true _ (c .if2 .taken)))
 
 add-judged : tie.Need-add-judged
-add-judged c = 
+add-judged c =
     let w = (c .before .before .led .ensures .0 (not-false _ (c .before .if2 .left))) in
     omega (arith, near _ _ (w .numbers), flag-small (c .before .before .before .before .before .before .before .args .self) (led-known _ _ (c .before .before .before .before .head-so-far .ensures) w))
 
@@ -40,7 +40,7 @@ judged-requires : tie.Need-judged-requires
 judged-requires c κs = (omega arith, omega (arith, c .before .before .before .total .ensures, total-small (c .before .before .before .before .head-so-far .result)))
 
 returns-3 : tie.Need-returns-3
-returns-3 c = 
+returns-3 c =
     let s = c .before .before .before .before .before .before .before .before .args .self in
     let head = c .before .before .before .before .before .head-so-far .ensures in
     judged-right s _ (c .before .before .before .before .total .ensures ∙ ap (heads .total) head) _

@@ -25,7 +25,7 @@ within-requires : tie.Need-within-requires
 within-requires c κs = omega (arith, c .total .ensures, total-small (c .before .head-so-far .result))
 
 returns-2 : tie.Need-returns-2
-returns-2 c = 
+returns-2 c =
     let s = c .before .before .before .before .before .before .before in
     forged-stays _ _ (λ led. not-both _ (c .before .within .ensures .1 (led-within (s .args .self) _ (s .pre .1) (c .before .before .total .ensures ∙ ap (heads .total) (c .before .before .before .head-so-far .ensures)) led)) (not-true _ (c .if2 .taken)))
 
@@ -36,7 +36,7 @@ add-next : tie.Need-add-next
 add-next c = search needs
 
 returns-3 : tie.Need-returns-3
-returns-3 c = 
+returns-3 c =
     let s = c .before .before .before .before .before .before .before .before .before in
     past-stepped (s .args .self) (c .before .before .before .before .total .result) (record { small = omega arith; none = c .before .before .before .before .before .before .before .before .before .pre .0; long = c .before .before .before .before .before .before .before .before .before .pre .1; total = c .before .before .before .before .total .ensures ∙ ap (heads .total) (c .before .before .before .before .before .head-so-far .ensures); within = (c .before .before .before .within .ensures .0 (not-false _ (c .before .before .if2 .left))) }) (s .args .bytes .now) _ (c .before .stepped .ensures) (c .if3 .taken)
 

@@ -19,7 +19,7 @@ led-requires : tie.Need-led-requires
 led-requires c κs = search needs
 
 returns-2 : tie.Need-returns-2
-returns-2 c = 
+returns-2 c =
     let s = c .before .before .before .before .before .args .self in
     let head = c .before .before .head-so-far .ensures in
     (λ yes. led-known s _ head (c .led .ensures .0 yes), λ leads. c .led .ensures .1 (known-led s _ head leads))

@@ -34,7 +34,7 @@ state-with-requires : tie.Need-state-with-requires
 state-with-requires c κs = search needs
 
 returns : tie.Need-returns
-returns c = 
+returns c =
     let s = c .before .before .before .before .before .before in
     searched-all (s .args .self) (s .args .letters) (s .pre .0) (s .args .bytes .now) (s .args .start) _ (s .pre .1) _ (c .before .before .before .before .head-so-far .ensures) (c .before .before .first-wrong .ensures)
     (c .before .if1 .taken) _ (c .state-with .ensures)
@@ -43,7 +43,7 @@ state-with-requires-2 : tie.Need-state-with-requires-2
 state-with-requires-2 c κs = search needs
 
 returns-2 : tie.Need-returns-2
-returns-2 c = 
+returns-2 c =
     let s = c .before .before .before .before .before .before in
     searched-some (s .args .self) (s .args .letters) (s .pre .0) (s .args .bytes .now) (s .args .start) _ (s .pre .1) _ (c .before .before .before .before .head-so-far .ensures) (c .before .before .first-wrong .ensures)
     (c .before .if1 .left) _ (c .state-with2 .ensures)

@@ -21,15 +21,15 @@ next-stands-requires-2 c κs = search needs
 
 returns-2 : tie.Need-returns-2
 returns-2 c = (
-    λ e. (255, omega arith, sym (c .next-stands2 .ensures) ∙ not-true _ e),
-    λ w.
-        let s = c .before .before .before in
-        not-is (c .next-stands2 .result)
-        (λ high.
-        not-both _
-        (any-stands (s .args .head) (s .args .at) (s .pre) (sym (c .before .before .next-stands .ensures) ∙ not-false _ (c .before .if1 .left)) (sym (c .next-stands2 .ensures) ∙ high) (w .0))
-        (w .2)),
-  )
+  λ e. (255, omega arith, sym (c .next-stands2 .ensures) ∙ not-true _ e),
+  λ w.
+      let s = c .before .before .before in
+      not-is (c .next-stands2 .result)
+      (λ high.
+      not-both _
+      (any-stands (s .args .head) (s .args .at) (s .pre) (sym (c .before .before .next-stands .ensures) ∙ not-false _ (c .before .if1 .left)) (sym (c .next-stands2 .ensures) ∙ high) (w .0))
+      (w .2)),
+)
 
 pub can-be-wrong-spec : {M : Type 1} → statement M
 can-be-wrong-spec =

@@ -13,20 +13,20 @@ partly-in-requires c κs = search needs
 
 returns : tie.Need-returns
 returns c = (
-    λ e.
-        record {
-          partly = λ few. c .partly-in .ensures .0 e;
-          whole = λ long. absurd (omega arith);
-          share = λ long. absurd (omega arith);
-        },
-    λ w. c .partly-in .ensures .1 (w .partly (c .before .if1 .taken)),
-  )
+  λ e.
+      record {
+        partly = λ few. c .partly-in .ensures .0 e;
+        whole = λ long. absurd (omega arith);
+        share = λ long. absurd (omega arith);
+      },
+  λ w. c .partly-in .ensures .1 (w .partly (c .before .if1 .taken)),
+)
 
 within-requires : tie.Need-within-requires
 within-requires c κs = omega (arith, c .before .pre, total-small (c .before .args .head))
 
 returns-2 : tie.Need-returns-2
-returns-2 c = 
+returns-2 c =
     let s = c .before .before in
     let long = c .before .if1 .left in (
       λ yes. within-numbers (s .args .head) (s .args .at) long (omega arith) (subst (λ n. Within n (s .args .at)) (s .pre) (c .within .ensures .0 yes)),

@@ -24,7 +24,7 @@ can-be-wrong-requires : tie.Need-can-be-wrong-requires
 can-be-wrong-requires c κs = c .before .before .before .head-at .ensures .0 (not-false _ (c .before .before .if1 .left))
 
 returns-4 : tie.Need-returns-4
-returns-4 c = 
+returns-4 c =
     let some = c .before .before .if2 .left in (
       λ e.
           record {

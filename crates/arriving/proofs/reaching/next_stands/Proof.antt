@@ -23,7 +23,7 @@ first-wrong-requires : tie.Need-first-wrong-requires
 first-wrong-requires c κs = let s = c .before .before .before .before in (near _ _ (s .pre), c .total .ensures)
 
 returns : tie.Need-returns
-returns c = 
+returns c =
     let s = c .before .before .before .before .before .args in
     passes-one (s .at) _ (s .byte) (c .first-wrong .result)
     (subst (λ g. StopsFrom (s .at) g (s .byte ∷ []) (c .first-wrong .result)) (c .before .before .before .head-with .ensures) (c .first-wrong .ensures))

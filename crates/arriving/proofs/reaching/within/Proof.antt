@@ -4,7 +4,6 @@ use Prim.Native.Nat.{_≤_}
 use native.Mathlib.Omega.{arith}
 use borrow.Author.Tests.{leb-true, le-leb}
 use Rattle.heads.proofs.Answers.{refuted}
-use borrow.Author.Needs.{needs}
 use Rattle.arriving.proofs.reaching.within.Statement.{statement}
 use Rattle.arriving.proofs.reaching.within.Tie as tie
 
@@ -15,7 +14,7 @@ size-for-requires : tie.Need-size-for-requires
 size-for-requires c κs = (omega arith, c .before .pre)
 
 returns-2 : tie.Need-returns-2
-returns-2 c = 
+returns-2 c =
     let s = c .before .before in (
       λ e. record { some = c .before .if1 .left; share = subst (λ n. s .args .at ≤ n) (c .size-for .ensures) (leb-true _ _ e) },
       λ w. le-leb _ _ (subst (λ n. s .args .at ≤ n) (sym (c .size-for .ensures)) (w .share)),

@@ -17,17 +17,17 @@ start-requires c κs = search needs
 loop-holds : tie.Need-loop-holds Inv-loop μ-loop
 loop-holds c = search needs
 
-sub-taken : tie.Need-sub-taken Inv-loop μ-loop
-sub-taken c = search needs
+sub-next-size : tie.Need-sub-next-size Inv-loop μ-loop
+sub-next-size c = search needs
 
-taken-requires : tie.Need-taken-requires Inv-loop μ-loop
-taken-requires c κs = search needs
+next-size-requires : tie.Need-next-size-requires Inv-loop μ-loop
+next-size-requires c κs = search needs
 
 part-requires : tie.Need-part-requires Inv-loop μ-loop
 part-requires c κs = search needs
 
-after-requires : tie.Need-after-requires Inv-loop μ-loop
-after-requires c κs = search needs
+taken-requires : tie.Need-taken-requires Inv-loop μ-loop
+taken-requires c κs = search needs
 
 digit-requires : tie.Need-digit-requires Inv-loop μ-loop
 digit-requires c κs = search needs
@@ -35,8 +35,8 @@ digit-requires c κs = search needs
 part-requires-2 : tie.Need-part-requires-2 Inv-loop μ-loop
 part-requires-2 c κs = search needs
 
-after-requires-2 : tie.Need-after-requires-2 Inv-loop μ-loop
-after-requires-2 c κs = search needs
+after-requires : tie.Need-after-requires Inv-loop μ-loop
+after-requires c κs = search needs
 
 add-at : tie.Need-add-at Inv-loop μ-loop
 add-at c = search needs
@@ -58,13 +58,13 @@ of-size-spec =
     μ-loop
     start-requires
     loop-holds
-    sub-taken
-    taken-requires
+    sub-next-size
+    next-size-requires
     part-requires
-    after-requires
+    taken-requires
     digit-requires
     part-requires-2
-    after-requires-2
+    after-requires
     add-at
     loop-less
     loop-again

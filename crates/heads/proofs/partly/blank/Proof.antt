@@ -22,9 +22,9 @@ returns-5 c = refuted (λ w. c .if5 .taken (w .l))
 
 returns-6 : tie.Need-returns-6
 returns-6 c = (
-    λ e. record { n = omega arith; k = omega arith; d = omega arith; node = omega arith; l = omega arith; batch = eqb-true _ _ e },
-    λ w. eq-eqb _ _ (w .batch),
-  )
+  λ e. record { n = omega arith; k = omega arith; d = omega arith; node = omega arith; l = omega arith; batch = eqb-true _ _ e },
+  λ w. eq-eqb _ _ (w .batch),
+)
 
 pub blank-spec : {M : Type 1} → statement M
 blank-spec = tie.close (tie.spec returns returns-2 returns-3 returns-4 returns-5 returns-6)

@@ -19,9 +19,9 @@ returns-4 c = refuted (λ w. omega (arith, w .node))
 
 returns-5 : tie.Need-returns-5
 returns-5 c = (
-    λ e. record { n = omega arith; k = omega arith; d = omega arith; node = omega arith; l = ltb-true _ _ e; batch = omega arith },
-    λ w. lt-ltb _ _ (w .l),
-  )
+  λ e. record { n = omega arith; k = omega arith; d = omega arith; node = omega arith; l = ltb-true _ _ e; batch = omega arith },
+  λ w. lt-ltb _ _ (w .l),
+)
 
 pub fits-spec : {M : Type 1} → statement M
 fits-spec = tie.close (tie.spec returns returns-2 returns-3 returns-4 returns-5)
