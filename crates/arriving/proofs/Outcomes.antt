@@ -18,12 +18,12 @@ use Rattle.heads.specs.Kind1.{kind1Size}
 use Rattle.heads.specs.Heads.{heads}
 use Rattle.heads.proofs.Kind1Laws.{lawful}
 use Rattle.judging.specs.declared.Judgment.{Judgment}
-use Rattle.judging.specs.Judging.{judgmentNumber, headOf, noHead}
+use Rattle.judging.specs.Judging.{Judges, judgmentNumber, headOf, noHead}
 use Rattle.judging.specs.Steps.Search.{judgmentAt}
 use Rattle.judging.proofs.Outcomes.{one-judgment, same-judging}
 use Rattle.arriving.specs.declared.Arriving.{Arriving}
 use Rattle.arriving.specs.declared.Coming.{Coming}
-use Rattle.arriving.specs.States.{headSoFar, Leads}
+use Rattle.arriving.specs.States.{headSoFar, stateOf, Leads}
 use Rattle.arriving.specs.Calls.{Takes, JudgesState, Announces, comingNumber, comingHead, comingBytes}
 use Rattle.arriving.proofs.Led.{led-right}
 use Rattle.arriving.proofs.Telling.{of-bytes, wrong-neither, share-told}
@@ -80,6 +80,12 @@ module _ (s : Arriving) where
   same-number (JudgesState.led xs bytes e n h j) (JudgesState.forged none) = absurd (none (xs, bytes, e))
   same-number (JudgesState.forged none) (JudgesState.led xs bytes e n h j) = absurd (none (xs, bytes, e))
   same-number (JudgesState.forged none) (JudgesState.forged none′) = (refl, refl)
+
+  -- so the state is judged as any bytes are that lead there
+  pub judged-as-bytes : {n : ℕ} {h : Head} → JudgesState s n h → (xs : List ℕ) → Bytes xs → stateOf xs ≡ s → Judges xs n h
+  judged-as-bytes (JudgesState.led zs more led n h j) xs bytes e =
+      let w = same-judging j (of-bytes s _ refl told refl zs more led) in rw (w .0, w .1) (of-bytes s _ refl told refl xs bytes e)
+  judged-as-bytes (JudgesState.forged none) xs bytes e = absurd (none (xs, bytes, e))
 
   pub judged-once : (r r′ : Judgment) → JudgesState s (judgmentNumber r) (headOf r) → JudgesState s (judgmentNumber r′) (headOf r′) → r ≡ r′
   judged-once r r′ a b = let w = same-number a b in one-judgment r r′ (w .0) (w .1)

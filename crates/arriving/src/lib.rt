@@ -19,6 +19,9 @@ ghost use Rattle.arriving.specs.States.{headSoFar, stateWith, stateOf, L
 ghost use Rattle.arriving.specs.Steps.Reaching.{Stepped, PastHead};
 ghost use Rattle.arriving.specs.Calls.{Takes, JudgesState, Announces, comingNumber, comingHead, comingBytes};
 
+// The last batch number.
+const LAST_BATCH: usize = 4294967295;
+
 // The state. It is a function of all bytes so far, `stateOf` in specs/, and of nothing else.
 pub struct Arriving {
     // How many bytes can stand so far. Once one couldn't, this is its index, and nothing is counted on.
@@ -93,7 +96,7 @@ impl Arriving {
     pub fn reached(self) -> bool
         ensures { λ r. ⌜ (r ≡ true) ↔ Leads self ⌝ }
     {
-        if 4294967295 < self.batch {
+        if LAST_BATCH < self.batch {
             return false;
         }
         let head = self.head_so_far();
@@ -115,7 +118,7 @@ impl Arriving {
         requires { ⌜ (self .wrong ≡ 0) × (kind1Size ≤ self .at) ⌝ }
         ensures { λ r. ⌜ Takes self (now (bytes .entry)) r ⌝ }
     {
-        if 4294967295 < self.batch {
+        if LAST_BATCH < self.batch {
             return self;
         }
         let at = self.at;
@@ -173,7 +176,7 @@ impl Arriving {
     pub fn judge(self) -> Judgment
         ensures { λ r. ⌜ JudgesState self (judgmentNumber r) (headOf r) ⌝ }
     {
-        if 4294967295 < self.batch {
+        if LAST_BATCH < self.batch {
             return Judgment::Refused(Refusal::Malformed);
         }
         let head = self.head_so_far();
