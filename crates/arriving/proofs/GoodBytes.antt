@@ -1,8 +1,8 @@
 -- How many bytes can stand: the count in a state is where the search stops, and so the place of document 01's first wrong byte.
-use mathlib.Core.Path.{_≡_, refl}
+use mathlib.Core.Path.{_≡_, refl, subst}
 use mathlib.Core.Bool.{Bool, true, false, cond}
 use mathlib.Core.List.{List}
-use mathlib.Core.Logic.{⊎-elim}
+use mathlib.Core.Logic.{_↔_, ⊎-elim}
 use Prim.Native.Nat.{ℕ, zero, suc, _+_, _≤_, _<_}
 use native.Mathlib.Omega.{arith}
 use lib.ListN.{length, take}
@@ -10,12 +10,12 @@ use Rattle.letters.specs.Lanes.{Bytes}
 use Rattle.letters.proofs.Cases.{le-or-lt}
 use Rattle.layout.specs.Judgment.{CanStand, Offends}
 use Rattle.layout.specs.Steps.Stands.{stands}
-use Rattle.layout.proofs.Judgments.{not-both, accepted-take, bytes-take, offends-if}
+use Rattle.layout.proofs.Judgments.{not-both, accepted-take, bytes-take, stands-before, offends-if, wrong-if}
 use Rattle.layout.proofs.Completing.{can-stand}
 use Rattle.heads.specs.Heads.{heads}
 use Rattle.heads.proofs.Kind1Laws.{lawful}
 use Rattle.judging.specs.Steps.Search.{Stops}
-use Rattle.arriving.specs.States.{upTo, goodBytes}
+use Rattle.arriving.specs.States.{CanStandTo, upTo, goodBytes}
 
 -- from i on, so many at most, up to q
 record Run (f : ℕ → Bool) (i count q : ℕ) : Type 0 where
@@ -70,3 +70,17 @@ good-stand xs bytes =
 pub next-offends : (xs : List ℕ) → Bytes xs → goodBytes xs < length xs → Offends heads xs (goodBytes xs)
 next-offends xs bytes h =
     let s = good-stops xs in offends-if heads lawful xs (goodBytes xs) bytes h (record { before = s .before; wrong = s .wrong h })
+
+pub good-exactly : (xs : List ℕ) → Bytes xs → (q : ℕ) → (goodBytes xs ≡ q) ↔ CanStandTo xs q
+good-exactly xs bytes q = (λ e. subst (CanStandTo xs) e good, λ w. good-is xs q (stops w))
+  where
+    good : CanStandTo xs (goodBytes xs)
+    good = record { within = good-stops xs .within; before = good-stand xs bytes; next = next-offends xs bytes }
+
+    stops : CanStandTo xs q → Stops xs q
+    stops w =
+        record {
+          within = w .within;
+          before = stands-before heads lawful xs q (w .within) (w .before);
+          wrong = λ h. wrong-if heads lawful xs q bytes (w .next h) .wrong;
+        }

@@ -2,13 +2,11 @@
 -- comes alive; and how the bytes were cut can't be seen.
 use mathlib.Core.Path.{_≡_, refl, sym, ap, _∙_}
 use mathlib.Core.List.{List, [], _++_, append-nil, append-assoc}
-use mathlib.Core.Logic.{_↔_, _⊎_, inl, inr, ⊎-elim}
-use Prim.Native.Nat.{ℕ, _-_}
+use mathlib.Core.Logic.{_↔_, _⊎_, inl, inr}
+use Prim.Native.Nat.{ℕ}
 use native.Mathlib.Omega.{arith}
-use lib.ListN.{length, getD, length-append}
 use Rattle.letters.specs.Lanes.{Bytes}
-use Rattle.letters.proofs.Cases.{le-or-lt}
-use Rattle.layout.proofs.LaidOut.{append-at-left, append-at-right}
+use Rattle.layout.proofs.Completing.{bytes-joined}
 use Rattle.layout.specs.Judgment.{IsShareOf, IsBeginning, IsNeither}
 use Rattle.heads.specs.declared.Head.{Head}
 use Rattle.heads.specs.Heads.{heads}
@@ -72,25 +70,12 @@ pub forged-is-malformed : {s : Arriving} {n : ℕ} {h : Head} → (Leads s → �
 forged-is-malformed none (JudgesState.led xs bytes led n h j) = absurd (none (xs, bytes, led))
 forged-is-malformed none (JudgesState.forged other) = (refl, refl)
 
-both-bytes : (xs ys : List ℕ) → Bytes xs → Bytes ys → Bytes (xs ++ ys)
-both-bytes xs ys a b =
-    record {
-      below =
-          λ i l.
-          ⊎-elim
-          (λ past.
-          let e : getD (xs ++ ys) i 0 ≡ getD ys (i - length xs) 0 = append-at-right xs ys i (length xs) refl past in
-          rw e (b .below (i - length xs) (omega (arith, length-append xs ys))))
-          (λ within. let e : getD (xs ++ ys) i 0 ≡ getD xs i 0 = append-at-left xs ys i within in rw e (a .below i within))
-          (le-or-lt (length xs) i);
-    }
-
 -- Two bursts leave what they leave as one, and an empty one leaves everything as it is.
 pub bursts-join : (s r t : Arriving) (ys zs : List ℕ) → Bytes ys → Takes s ys r → Takes r zs t → Takes s (ys ++ zs) t
 bursts-join s r t ys zs more one two = record { led = led; forged = λ none. two .forged (forged-for-ever s r ys none one) ∙ one .forged none }
   where
     led : (xs : List ℕ) → Bytes xs → stateOf xs ≡ s → stateOf (xs ++ (ys ++ zs)) ≡ t
-    led xs bytes e = ap stateOf (sym (append-assoc xs ys zs)) ∙ two .led (xs ++ ys) (both-bytes xs ys bytes more) (one .led xs bytes e)
+    led xs bytes e = ap stateOf (sym (append-assoc xs ys zs)) ∙ two .led (xs ++ ys) (bytes-joined xs ys bytes more) (one .led xs bytes e)
 
 pub nothing-taken : (s r : Arriving) → Takes s [] r → (xs : List ℕ) → Bytes xs → stateOf xs ≡ s → r ≡ s
 nothing-taken s r t xs bytes e = sym (t .led xs bytes e) ∙ ap stateOf (append-nil xs) ∙ e

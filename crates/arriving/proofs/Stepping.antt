@@ -1,5 +1,5 @@
 -- What is stepped over past the head: letters, and full blocks; and how the search goes on behind them.
-use mathlib.Core.Path.{_≡_, refl, sym, ap, ap₂, subst, _∙_}
+use mathlib.Core.Path.{_≡_, refl, sym, ap₂, subst, _∙_}
 use mathlib.Core.Bool.{true}
 use mathlib.Core.List.{List}
 use mathlib.Core.Logic.{⊎-elim}
@@ -9,14 +9,14 @@ use lib.ListN.{length, getD, take, drop, length-drop}
 use lib.Seq.{getD-drop, take-all}
 use Rattle.letters.proofs.Cases.{le-or-lt}
 use Rattle.records.specs.Records.{blockLetters, blockSize, sizeFor, totalLimit}
-use Rattle.records.specs.Steps.Places.{standsIn, recordStart, recordSize, recordAt, offsetAt}
-use Rattle.records.proofs.Places.{found, stands-placed}
+use Rattle.records.specs.Steps.Places.{recordStart, recordSize, recordAt, offsetAt}
+use Rattle.records.proofs.Places.{found}
 use Rattle.layout.specs.Steps.Reading.{Lettered, FullBlocks}
-use Rattle.layout.proofs.SteppedOver.{full-stand}
 use Rattle.heads.specs.declared.Head.{Head}
 use Rattle.heads.specs.Kind1.{kind1Size, kind1Tests}
 use Rattle.heads.specs.Heads.{heads}
 use Rattle.judging.specs.Steps.Search.{standsAt, farthest, StopsFrom}
+use Rattle.judging.proofs.Walk.{tested-at, past-blocks}
 use Rattle.arriving.specs.Steps.Reaching.{Stepped}
 
 -- where a byte past the head stands
@@ -44,13 +44,7 @@ record Begun (at T : ℕ) (ys : List ℕ) (start r : ℕ) : Type 0 where
 -- full blocks behind them
 module _ (at T : ℕ) (ys : List ℕ) (start r next : ℕ) (b : Begun at T ys start r) (w : FullBlocks start ys T r next) where
   full-stands : (h : Head) → T ≡ heads .total h → (p : ℕ) → p < next → standsAt h (at + p) (getD ys p 0) ≡ true
-  unfolding standsAt
-  full-stands h total p l =
-      ⊎-elim
-      (λ later.
-      ap (λ t. standsIn (kind1Tests h (getD ys p 0)) t (recordAt kind1Size (at + p)) (offsetAt kind1Size (at + p)) (getD ys p 0)) (sym total)
-      ∙ full-stand kind1Size at start ys T (kind1Tests h (getD ys p 0)) r next p w (b .block (omega (arith, w .full 0 (omega arith)))) later l)
-      (b .before h total p) (le-or-lt start p)
+  full-stands h total = past-blocks at h T ys start r next total (b .before h total) (λ some. b .block (omega (arith, w .full 0 (omega arith)))) w
 
   -- they end no farther than the share does
   still-near : at ≤ sizeFor kind1Size T → T < totalLimit → at + next ≤ farthest
@@ -80,11 +74,8 @@ module _ (ys : List ℕ) (T nth offset at : ℕ) (long : kind1Size ≤ at) (near
   -- else there are
   module _ (some : offset ≡ 0 → ⊥) (count : ℕ) (w : Lettered T nth (offset - 1) count) where
     letters-stand : (h : Head) → T ≡ heads .total h → (q : ℕ) → q < count → standsAt h (at + q) (getD ys q 0) ≡ true
-    unfolding standsAt
     letters-stand h total q l =
-        ap (λ t. standsIn (kind1Tests h (getD ys q 0)) t (recordAt kind1Size (at + q)) (offsetAt kind1Size (at + q)) (getD ys q 0)) (sym total)
-        ∙ stands-placed kind1Size (kind1Tests h (getD ys q 0)) T nth (offset + q) (at + q) (getD ys q 0)
-        (omega (arith, p .size, w .inside (omega arith), some)) (omega (arith, p .starts))
+        tested-at h T total nth (offset + q) (at + q) (getD ys q 0) (omega (arith, p .size, w .inside (omega arith), some)) (omega (arith, p .starts))
         ∙ w .any (kind1Tests h (getD ys q 0)) (offset + q) (getD ys q 0) (omega (arith, some)) (omega (arith, some))
 
     pub all-letters : length ys ≤ count → Stepped at T ys (length ys)

@@ -2,23 +2,31 @@
 use mathlib.Core.Path.{_≡_}
 use mathlib.Core.Bool.{Bool, cond}
 use mathlib.Core.List.{List}
-use Prim.Native.Nat.{ℕ, zero, suc}
+use Prim.Native.Nat.{ℕ, zero, suc, _≤_, _<_}
 use lib.Dec.{ltb}
 use lib.ListN.{length, take}
 use Rattle.letters.specs.Lanes.{Bytes}
 use Rattle.group.specs.Ranges.{groupOf}
+use Rattle.layout.specs.Judgment.{CanStand, Offends}
 use Rattle.layout.specs.Steps.Stands.{stands}
 use Rattle.heads.specs.declared.Head.{Head}
 use Rattle.heads.specs.Heads.{heads}
 use Rattle.arriving.specs.declared.Arriving.{Arriving}
+
+-- So many bytes from the front can stand: a share can have them first, and the next, if there is one, is the first byte that no share has there after
+-- those before it.
+pub record CanStandTo (xs : List ℕ) (q : ℕ) : Type 0 where
+  pub within : q ≤ length xs
+  pub before : CanStand heads (take q xs)
+  pub next : q < length xs → Offends heads xs q
 
 -- from i on, so many at most, up to the first at which it fails
 unfoldable pub upTo : (ℕ → Bool) → ℕ → ℕ → ℕ
 upTo f i zero = i
 upTo f i (suc count) = cond (f i) (upTo f (suc i) count) i
 
--- How many bytes from the front can stand: up to the first that no share has there after the bytes before it, or all of them. (That these
--- are the bytes that can stand is a theorem: `GoodBytes` in proofs/.)
+-- How many bytes from the front can stand. It is computed by the search's own test of each byte, which nobody has to believe: that this is the
+-- one number that `CanStandTo` allows is `good-exactly` (proofs/GoodBytes.antt).
 abbrev pub goodBytes : List ℕ → ℕ
 goodBytes xs = upTo (stands heads xs) 0 (length xs)
 

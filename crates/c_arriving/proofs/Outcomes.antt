@@ -1,7 +1,10 @@
 -- What each exported call's contract says allows one number returned and one content of each lent number and buffer.
-use mathlib.Core.Path.{_≡_, refl, ap}
+use mathlib.Core.Path.{_≡_, refl, sym, ap, _∙_}
 use mathlib.Core.List.{List}
-use Prim.Native.Nat.{ℕ}
+use Prim.Native.Nat.{ℕ, zero, suc, _<_}
+use native.Mathlib.Omega.{arith}
+use lib.ListN.{length, getD}
+use lib.Seq.{ext-getD}
 use Rattle.arriving.proofs.Outcomes.{taken-once, same-number, same-coming}
 use Rattle.c_shares.specs.Shares.{six}
 use Rattle.c_arriving.specs.Arrivals.{stateIn, eight, StartsWords, TakesWords, JudgesWords, AnnouncesWords}
@@ -58,3 +61,21 @@ announces-once (AnnouncesWords.unfit n) (AnnouncesWords.known l h c a e) = absur
 announces-once (AnnouncesWords.unfit u) (AnnouncesWords.refused l n z a) = absurd (u l)
 announces-once (AnnouncesWords.unfit n) (AnnouncesWords.misfit l h c a ne) = absurd (n l)
 announces-once (AnnouncesWords.unfit n) (AnnouncesWords.unfit n′) = (refl, refl, refl)
+
+-- Two arrays are one state only if all their numbers are the same: the state's numbers are the array's.
+pub words-back : (words : List ℕ) → length words ≡ 8 → eight (stateIn words) ≡ words
+words-back words e = ext-getD 0 (eight (stateIn words)) words (sym e) each
+  where
+    each : (i : ℕ) → i < 8 → getD (eight (stateIn words)) i 0 ≡ getD words i 0
+    each zero h = refl
+    each (suc zero) h = refl
+    each (suc (suc zero)) h = refl
+    each (suc (suc (suc zero))) h = refl
+    each (suc (suc (suc (suc zero)))) h = refl
+    each (suc (suc (suc (suc (suc zero))))) h = refl
+    each (suc (suc (suc (suc (suc (suc zero)))))) h = refl
+    each (suc (suc (suc (suc (suc (suc (suc zero))))))) h = refl
+    each (suc (suc (suc (suc (suc (suc (suc (suc i)))))))) h = absurd (omega arith)
+
+pub one-array : (words others : List ℕ) → length words ≡ 8 → length others ≡ 8 → stateIn words ≡ stateIn others → words ≡ others
+one-array words others e f same = sym (words-back words e) ∙ ap eight same ∙ words-back others f

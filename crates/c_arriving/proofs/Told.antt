@@ -1,9 +1,8 @@
 -- How a state, a judgment and the share that is coming are told to C.
-use mathlib.Core.Path.{_≡_, refl, sym, subst}
-use mathlib.Core.List.{List, [], _∷_}
+use mathlib.Core.Path.{_≡_, sym, subst}
+use mathlib.Core.List.{List}
 use Prim.Native.Nat.{ℕ}
-use native.Mathlib.Omega.{arith}
-use lib.ListN.{length, set}
+use lib.ListN.{length}
 use Rattle.group.specs.declared.Refusal.{Refusal}
 use Rattle.group.specs.Answers.{refusalNumber}
 use Rattle.group.proofs.Refusals.{numbered}
@@ -15,21 +14,6 @@ use Rattle.arriving.specs.declared.Coming.{Coming}
 use Rattle.arriving.specs.Calls.{Takes, JudgesState, Announces, comingNumber, comingHead, comingBytes}
 use Rattle.c_shares.specs.Shares.{six}
 use Rattle.c_arriving.specs.Arrivals.{stateIn, eight, TakesWords, JudgesWords, AnnouncesWords}
-
--- eight stores into eight numbers
-pub eight-stored :
-    (xs : List ℕ) (a b c d e f g h : ℕ) → length xs ≡ 8
-    → set (set (set (set (set (set (set (set xs 0 a) 1 b) 2 c) 3 d) 4 e) 5 f) 6 g) 7 h ≡ a ∷ b ∷ c ∷ d ∷ e ∷ f ∷ g ∷ h ∷ []
-eight-stored [] a b c d e f g h z = absurd (omega arith)
-eight-stored (x ∷ []) a b c d e f g h z = absurd (omega arith)
-eight-stored (x ∷ (y ∷ [])) a b c d e f g h z = absurd (omega arith)
-eight-stored (x ∷ (y ∷ (u ∷ []))) a b c d e f g h z = absurd (omega arith)
-eight-stored (x ∷ (y ∷ (u ∷ (v ∷ [])))) a b c d e f g h z = absurd (omega arith)
-eight-stored (x ∷ (y ∷ (u ∷ (v ∷ (w ∷ []))))) a b c d e f g h z = absurd (omega arith)
-eight-stored (x ∷ (y ∷ (u ∷ (v ∷ (w ∷ (o ∷ [])))))) a b c d e f g h z = absurd (omega arith)
-eight-stored (x ∷ (y ∷ (u ∷ (v ∷ (w ∷ (o ∷ (p ∷ []))))))) a b c d e f g h z = absurd (omega arith)
-eight-stored (x ∷ (y ∷ (u ∷ (v ∷ (w ∷ (o ∷ (p ∷ (q ∷ [])))))))) a b c d e f g h z = refl
-eight-stored (x ∷ (y ∷ (u ∷ (v ∷ (w ∷ (o ∷ (p ∷ (q ∷ (r ∷ xs))))))))) a b c d e f g h z = absurd (omega arith)
 
 -- taking
 pub took :

@@ -1,9 +1,9 @@
 -- What a judgment tells: a share and its head, or a refusal by 7 or 8.
 use mathlib.Core.Path.{_≡_, refl, sym, subst}
-use mathlib.Core.List.{List, [], _∷_}
+use mathlib.Core.List.{List}
 use Prim.Native.Nat.{ℕ}
 use native.Mathlib.Omega.{arith}
-use lib.ListN.{length, set}
+use lib.ListN.{length}
 use Rattle.group.specs.declared.Refusal.{Refusal}
 use Rattle.group.specs.Answers.{refusalNumber}
 use Rattle.group.proofs.Refusals.{numbered}
@@ -13,19 +13,6 @@ use Rattle.share.specs.Calls.{Reads}
 use Rattle.judging.specs.Judging.{judgmentNumber, headOf, noHead, Judges}
 use Rattle.judging.proofs.Verdicts.{found-share}
 use Rattle.c_shares.specs.Shares.{six, JudgesShare, ReadsShare, Misfits}
-
--- six stores into six numbers
-pub six-stored :
-    (xs : List ℕ) (a b c d e f : ℕ) → length xs ≡ 6
-    → set (set (set (set (set (set xs 0 a) 1 b) 2 c) 3 d) 4 e) 5 f ≡ a ∷ b ∷ c ∷ d ∷ e ∷ f ∷ []
-six-stored [] a b c d e f h = absurd (omega arith)
-six-stored (x ∷ []) a b c d e f h = absurd (omega arith)
-six-stored (x ∷ (y ∷ [])) a b c d e f h = absurd (omega arith)
-six-stored (x ∷ (y ∷ (z ∷ []))) a b c d e f h = absurd (omega arith)
-six-stored (x ∷ (y ∷ (z ∷ (u ∷ [])))) a b c d e f h = absurd (omega arith)
-six-stored (x ∷ (y ∷ (z ∷ (u ∷ (v ∷ []))))) a b c d e f h = absurd (omega arith)
-six-stored (x ∷ (y ∷ (z ∷ (u ∷ (v ∷ (w ∷ [])))))) a b c d e f h = refl
-six-stored (x ∷ (y ∷ (z ∷ (u ∷ (v ∷ (w ∷ (o ∷ xs))))))) a b c d e f h = absurd (omega arith)
 
 refused-as : (bytes head : List ℕ) (n : ℕ) (h : Head) → Judges bytes n h → (n ≡ 0 → ⊥) → JudgesShare bytes head n head
 refused-as bytes head n h (Judges.complete h′ letters is) z = absurd (z refl)

@@ -67,16 +67,34 @@ offset-small base count nth start offset end at w h = omega (arith, size-at-most
 abbrev pub SoFar : ℕ → Head → List ℕ → ℕ → Type 0
 SoFar base h ys at = (p : ℕ) → p < at → standsAt h (base + p) (getD ys p 0) ≡ true
 
+-- a byte is tested by its offset in its record
+pub tested-at :
+    (h : Head) (T : ℕ) → T ≡ heads .total h → (nth j p byte : ℕ) → j < recordSize kind1Size nth → p ≡ recordStart kind1Size nth + j
+    → standsAt h p byte ≡ standsIn (kind1Tests h byte) T nth j byte
+unfolding standsAt
+tested-at h T total nth j p byte l e =
+    ap (λ t. standsIn (kind1Tests h byte) t (recordAt kind1Size p) (offsetAt kind1Size p) byte) (sym total)
+    ∙ stands-placed kind1Size (kind1Tests h byte) T nth j p byte l e
+
+-- past full blocks, which begin behind bytes that stand
+pub past-blocks :
+    (base : ℕ) (h : Head) (T : ℕ) (ys : List ℕ) (start r next : ℕ) → T ≡ heads .total h → SoFar base h ys start
+    → (start < next → base + start ≡ kind1Size + r * blockSize) → FullBlocks start ys T r next → SoFar base h ys next
+unfolding standsAt
+past-blocks base h T ys start r next total so-far begins full p l =
+    ⊎-elim
+    (λ later.
+    ap (λ t. standsIn (kind1Tests h (getD ys p 0)) t (recordAt kind1Size (base + p)) (offsetAt kind1Size (base + p)) (getD ys p 0)) (sym total)
+    ∙ full-stand kind1Size base start ys T (kind1Tests h (getD ys p 0)) r next p full (begins (omega arith)) later l)
+    (so-far p) (le-or-lt start p)
+
 module _ (base : ℕ) (h : Head) (T : ℕ) (ys : List ℕ) (total : T ≡ heads .total h) (nth start offset end at : ℕ)
     (w : InRecord base (length ys) nth start offset end at) where
   -- a byte of the record is tested by its offset
   pub tested :
       (p : ℕ) → start ≤ p → p < end
       → standsAt h (base + p) (getD ys p 0) ≡ standsIn (kind1Tests h (getD ys p 0)) T nth (offset + (p - start)) (getD ys p 0)
-  unfolding standsAt
-  tested p lo hi =
-      ap (λ t. standsIn (kind1Tests h (getD ys p 0)) t (recordAt kind1Size (base + p)) (offsetAt kind1Size (base + p)) (getD ys p 0)) (sym total)
-      ∙ stands-placed kind1Size (kind1Tests h (getD ys p 0)) T nth (offset + (p - start)) (base + p) (getD ys p 0) (omega (arith, w)) (omega (arith, w))
+  tested p lo hi = tested-at h T total nth (offset + (p - start)) (base + p) (getD ys p 0) (omega (arith, w)) (omega (arith, w))
 
   -- past a byte that stands and what is stepped over after it
   pub further :
@@ -100,10 +118,4 @@ module _ (base : ℕ) (h : Head) (T : ℕ) (ys : List ℕ) (total : T ≡ heads 
 
   -- past the record and the full blocks after it
   pub beyond : (next : ℕ) → end ≤ at → SoFar base h ys at → FullBlocks at ys T nth next → SoFar base h ys next
-  unfolding standsAt
-  beyond next done so-far full p l =
-      ⊎-elim
-      (λ later.
-      ap (λ t. standsIn (kind1Tests h (getD ys p 0)) t (recordAt kind1Size (base + p)) (offsetAt kind1Size (base + p)) (getD ys p 0)) (sym total)
-      ∙ full-stand kind1Size base at ys T (kind1Tests h (getD ys p 0)) nth next p full (at-block done (omega (arith, full .there))) later l)
-      (so-far p) (le-or-lt at p)
+  beyond next done so-far full = past-blocks base h T ys at nth next total so-far (λ some. at-block done (omega (arith, full .there))) full

@@ -4,10 +4,10 @@ use mathlib.Core.Path.{_≡_, refl, sym, ap, _∙_}
 use mathlib.Core.Bool.{Bool, true, false, cond}
 use mathlib.Core.List.{List, [], _∷_, _++_, append-nil, append-assoc}
 use mathlib.Core.Logic.{⊎-elim}
-use Prim.Native.Nat.{ℕ, zero, suc, _+_, _*_, _≤_, _<_}
+use Prim.Native.Nat.{ℕ, zero, suc, _+_, _-_, _*_, _≤_, _<_}
 use native.Mathlib.Omega.{arith}
 use lib.Dec.{leb}
-use lib.ListN.{length, getD, length-append, List·getD-append}
+use lib.ListN.{length, getD, length-append}
 use lib.Seq.{getD-at}
 use borrow.Author.Tests.{eq-eqb}
 use Rattle.letters.proofs.Cases.{le-or-lt, eq-or-ne}
@@ -19,6 +19,7 @@ use Rattle.layout.specs.Share.{ShareOf}
 use Rattle.layout.specs.Judgment.{CanStand}
 use Rattle.layout.specs.Steps.Stands.{stands}
 use Rattle.layout.specs.Laws.{Lawful}
+use Rattle.layout.proofs.LaidOut.{append-at-left, append-at-right}
 use Rattle.layout.proofs.Stands.{head, block, end, place-of, stands-head, stands-block, stands-end, stands-not, letter-stands}
 use Rattle.layout.proofs.Accepted.{Accepted, accepted-next, size-with, total-with, passes, share-in, ownLetters}
 
@@ -44,17 +45,22 @@ end-is-byte T (suc (suc (suc zero))) h = omega arith
 end-is-byte T (suc (suc (suc (suc zero)))) h = omega arith
 end-is-byte T (suc (suc (suc (suc (suc j))))) h = absurd (omega arith)
 
-pub bytes-next : (xs : List ℕ) (byte : ℕ) → Bytes xs → byte < 256 → Bytes (xs ++ byte ∷ [])
-bytes-next xs byte bytes h =
+pub bytes-joined : (xs ys : List ℕ) → Bytes xs → Bytes ys → Bytes (xs ++ ys)
+bytes-joined xs ys a b =
     record {
       below =
           λ i l.
-          let within : i < length xs + 1 = rw length-append at l in
           ⊎-elim
-          (λ at. let e : length xs ≡ i = omega arith in rw (getD-at xs byte [] 0 i e) h)
-          (λ before. rw (List·getD-append xs (byte ∷ []) 0 i before) (bytes .below i before))
+          (λ past.
+          let e : getD (xs ++ ys) i 0 ≡ getD ys (i - length xs) 0 = append-at-right xs ys i (length xs) refl past in
+          rw e (b .below (i - length xs) (omega (arith, length-append xs ys))))
+          (λ within. let e : getD (xs ++ ys) i 0 ≡ getD xs i 0 = append-at-left xs ys i within in rw e (a .below i within))
           (le-or-lt (length xs) i);
     }
+
+pub bytes-next : (xs : List ℕ) (byte : ℕ) → Bytes xs → byte < 256 → Bytes (xs ++ byte ∷ [])
+bytes-next xs byte bytes h =
+    bytes-joined xs (byte ∷ []) bytes (record { below = λ i l. let e : i ≡ 0 = omega arith in rw e h })
 
 -- what can stand next
 abbrev pub Next : {Head : Type 0} → Layout Head → List ℕ → Type 0

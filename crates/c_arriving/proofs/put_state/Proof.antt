@@ -1,7 +1,8 @@
 -- `put_state` meets its contract: eight stores fill eight numbers.
 use native.Mathlib.Omega.{arith}
 use lib.ListN.{length-set}
-use Rattle.c_arriving.proofs.Told.{eight-stored}
+use Rattle.c_answers.proofs.Stores.{all-stored}
+use Rattle.c_arriving.specs.Arrivals.{eight}
 use borrow.Author.Needs.{needs}
 use Rattle.c_arriving.proofs.put_state.Statement.{statement}
 use Rattle.c_arriving.proofs.put_state.Tie as tie
@@ -34,7 +35,7 @@ same-length : tie.Need-same-length
 same-length c = search needs
 
 returns : tie.Need-returns
-returns c = let a = c .args .state in eight-stored (c .args .into .now) (a .at) (a .wrong) (a .n) (a .k) (a .d) (a .node) (a .l) (a .batch) (c .pre)
+returns c = all-stored (c .args .into .now) (eight (c .args .state)) (c .pre)
 
 pub put-state-spec : {M : Type 1} → statement M
 put-state-spec =

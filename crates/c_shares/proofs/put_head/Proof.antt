@@ -1,6 +1,7 @@
 -- `shares::put_head` meets its contract: six stores fill six numbers.
 use lib.ListN.{length-set}
-use Rattle.c_shares.proofs.Judged.{six-stored}
+use Rattle.c_answers.proofs.Stores.{all-stored}
+use Rattle.c_shares.specs.Shares.{six}
 use borrow.Author.Needs.{needs}
 use native.Mathlib.Omega.{arith}
 use Rattle.c_shares.proofs.put_head.Statement.{statement}
@@ -32,7 +33,7 @@ same-length c = search needs
 
 returns : tie.Need-returns
 returns c = let a = c .before .args in
-    six-stored (a .into .now) (a .head .group .n) (a .head .group .k) (a .head .group .d) (a .head .node) (a .head .group .l) (a .head .batch) (c .before .pre)
+    all-stored (a .into .now) (six (a .head)) (c .before .pre)
 
 pub put-head-spec : {M : Type 1} → statement M
 put-head-spec =
