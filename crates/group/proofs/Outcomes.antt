@@ -3,14 +3,14 @@ use mathlib.Core.Path.{_≡_, refl, sym, ap, _∙_}
 use mathlib.Core.List.{List}
 use Prim.Native.Nat.{ℕ, zero, suc}
 use Rattle.group.specs.declared.Refusal.{Refusal}
-use Rattle.group.specs.declared.Refusal.the-variants.{Numbers, Length, Ids, Order, Input, Output, Unfinished, Malformed}
+use Rattle.group.specs.declared.Refusal.the-variants.{Numbers, Length, Ids, Order, Input, Output, Unfinished, Kind, HeadNumber, Filler, Total, AfterEnd}
 use Rattle.group.specs.declared.Answer.{Answer}
 use Rattle.group.specs.declared.Answer.the-variants.{Value, Refused}
 use Rattle.group.specs.Answers.{refusalNumber, numberOf, valueOf, ifFine, Answers, Called}
 use Rattle.group.proofs.Refusals.{numbered}
 
 -- the refusal of a number
-named : ℕ → Refusal
+pub named : ℕ → Refusal
 named zero = Numbers
 named (suc zero) = Numbers
 named (suc (suc zero)) = Length
@@ -19,9 +19,13 @@ named (suc (suc (suc (suc zero)))) = Order
 named (suc (suc (suc (suc (suc zero))))) = Input
 named (suc (suc (suc (suc (suc (suc zero)))))) = Output
 named (suc (suc (suc (suc (suc (suc (suc zero))))))) = Unfinished
-named (suc (suc (suc (suc (suc (suc (suc (suc n)))))))) = Malformed
+named (suc (suc (suc (suc (suc (suc (suc (suc zero)))))))) = Kind
+named (suc (suc (suc (suc (suc (suc (suc (suc (suc zero))))))))) = HeadNumber
+named (suc (suc (suc (suc (suc (suc (suc (suc (suc (suc zero)))))))))) = Filler
+named (suc (suc (suc (suc (suc (suc (suc (suc (suc (suc (suc zero))))))))))) = Total
+named (suc (suc (suc (suc (suc (suc (suc (suc (suc (suc (suc (suc n)))))))))))) = AfterEnd
 
-named-number : (r : Refusal) → named (refusalNumber r) ≡ r
+pub named-number : (r : Refusal) → named (refusalNumber r) ≡ r
 unfolding named
 named-number Numbers = refl
 named-number Length = refl
@@ -30,7 +34,11 @@ named-number Order = refl
 named-number Input = refl
 named-number Output = refl
 named-number Unfinished = refl
-named-number Malformed = refl
+named-number Kind = refl
+named-number HeadNumber = refl
+named-number Filler = refl
+named-number Total = refl
+named-number AfterEnd = refl
 
 -- no two refusals have one number
 pub refusal-once : (a b : Refusal) → refusalNumber a ≡ refusalNumber b → a ≡ b

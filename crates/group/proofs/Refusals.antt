@@ -1,13 +1,13 @@
 -- Laws of refusal numbers: which test they tell of, which of two comes first, and what an answer then is.
 use mathlib.Core.Path.{_≡_, refl, sym, ap, subst, _∙_}
 use mathlib.Core.Bool.{Bool, true, false, not}
-use Prim.Native.Nat.{ℕ, zero, suc}
+use Prim.Native.Nat.{ℕ, zero, suc, _<_}
 use lib.Dec.{eqb}
 use borrow.Author.Tests.{eqb-true, not-true, not-false}
 use native.Mathlib.Omega.{arith}
 use Rattle.letters.specs.Places.{both}
 use Rattle.group.specs.declared.Refusal.{Refusal}
-use Rattle.group.specs.declared.Refusal.the-variants.{Numbers, Length, Ids, Order, Input, Output, Unfinished, Malformed}
+use Rattle.group.specs.declared.Refusal.the-variants.{Numbers, Length, Ids, Order, Input, Output, Unfinished, Kind, HeadNumber, Filler, Total, AfterEnd}
 use Rattle.group.specs.declared.Check.{Check}
 use Rattle.group.specs.declared.Answer.{Answer}
 use Rattle.group.specs.Answers.{refusalNumber, checkNumber, numberOf, valueOf, unless, first, ifFine, Answers}
@@ -21,7 +21,26 @@ numbered Order e = omega arith
 numbered Input e = omega arith
 numbered Output e = omega arith
 numbered Unfinished e = omega arith
-numbered Malformed e = omega arith
+numbered Kind e = omega arith
+numbered HeadNumber e = omega arith
+numbered Filler e = omega arith
+numbered Total e = omega arith
+numbered AfterEnd e = omega arith
+
+-- and all have room in a byte
+pub small-number : (r : Refusal) → refusalNumber r < 256
+small-number Numbers = omega arith
+small-number Length = omega arith
+small-number Ids = omega arith
+small-number Order = omega arith
+small-number Input = omega arith
+small-number Output = omega arith
+small-number Unfinished = omega arith
+small-number Kind = omega arith
+small-number HeadNumber = omega arith
+small-number Filler = omega arith
+small-number Total = omega arith
+small-number AfterEnd = omega arith
 
 -- a test that is refused by no number holds, and one that holds is not refused
 pub unless-none : (b : Bool) (r : ℕ) → (r ≡ 0 → ⊥) → unless b r ≡ 0 → b ≡ true

@@ -1,14 +1,14 @@
--- Each refusal's number in document 01 (docs/SCHEME.md, 11), and what an answer's number and value are.
+-- Each refusal's number in documents 01 and 02 (docs/SCHEME.md, 11), and what an answer's number and value are.
 use mathlib.Core.Path.{_≡_}
 use mathlib.Core.Bool.{Bool, true, false}
 use mathlib.Core.List.{List}
 use Prim.Native.Nat.{ℕ, zero, suc}
 use Rattle.group.specs.declared.Refusal.{Refusal}
-use Rattle.group.specs.declared.Refusal.the-variants.{Numbers, Length, Ids, Order, Input, Output, Unfinished, Malformed}
+use Rattle.group.specs.declared.Refusal.the-variants.{Numbers, Length, Ids, Order, Input, Output, Unfinished, Kind, HeadNumber, Filler, Total, AfterEnd}
 use Rattle.group.specs.declared.Check.{Check}
 use Rattle.group.specs.declared.Answer.{Answer}
 
--- the numbers of the table "What comes back when a call is turned down"
+-- the numbers of the table "What comes back when a call is turned down", with 8 split as Ask 2 has it
 abbrev pub refusalNumber : Refusal → ℕ
 refusalNumber Numbers = 1
 refusalNumber Length = 2
@@ -17,7 +17,11 @@ refusalNumber Order = 4
 refusalNumber Input = 5
 refusalNumber Output = 6
 refusalNumber Unfinished = 7
-refusalNumber Malformed = 8
+refusalNumber Kind = 8
+refusalNumber HeadNumber = 9
+refusalNumber Filler = 10
+refusalNumber Total = 11
+refusalNumber AfterEnd = 12
 
 -- a check's number: 0 where nothing is refused
 abbrev pub checkNumber : Check → ℕ
@@ -33,6 +37,13 @@ numberOf (Answer.Refused r) = refusalNumber r
 abbrev pub valueOf : Answer → ℕ
 valueOf (Answer.Value v) = v
 valueOf (Answer.Refused r) = 0
+
+-- What comes back in the papers' numbers, where an answer carries more than one number: its values; or the number of a refusal; or that number
+-- with the place at which bytes are wrong.
+pub data Outcome (A : Type 0) : Type 0 where
+  fine : A → Outcome A
+  refused : ℕ → Outcome A
+  wrong : (number place : ℕ) → Outcome A
 
 -- the number r where the test fails, and 0 where it holds
 abbrev pub unless : Bool → ℕ → ℕ

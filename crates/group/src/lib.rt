@@ -37,8 +37,17 @@ pub enum Refusal {
     Output,
     // 7: the bytes are the beginning of some share, but not all of it.
     Unfinished,
-    // 8: the bytes are neither a share nor the beginning of one.
-    Malformed,
+    // 8 to 12: the bytes are neither a share nor the beginning of one. Where the first byte that can't stand would stand tells them apart.
+    // 8: the kind of a record.
+    Kind,
+    // 9: a number of the head.
+    HeadNumber,
+    // 10: the zeros that fill up the last block.
+    Filler,
+    // 11: the total.
+    Total,
+    // 12: after the end.
+    AfterEnd,
 }
 
 // What a check finds.
@@ -65,7 +74,11 @@ pub fn refusal_number(refusal: Refusal) -> usize
         Refusal::Input => 5,
         Refusal::Output => 6,
         Refusal::Unfinished => 7,
-        Refusal::Malformed => 8,
+        Refusal::Kind => 8,
+        Refusal::HeadNumber => 9,
+        Refusal::Filler => 10,
+        Refusal::Total => 11,
+        Refusal::AfterEnd => 12,
     }
 }
 

@@ -1,4 +1,5 @@
 // What bytes are: a share, the beginning of one, or neither. The search for the first byte that can't stand where it is tells.
+pub mod refusing;
 pub mod search;
 
 use group::Refusal;
@@ -8,26 +9,37 @@ use records::sizes;
 ghost use mathlib.Core.Path.{_≡_};
 ghost use Prim.Native.Nat.{_≤_, _<_};
 ghost use Rattle.records.specs.Records.{blockSize, totalLimit, sizeFor};
-ghost use Rattle.judging.specs.Judging.{Judges, judgmentNumber, headOf};
+ghost use Rattle.judging.specs.Judging.{Judges, CanStandTo, outcomeOf};
 ghost use Rattle.judging.specs.Steps.Search.{judgmentAt};
 
-// What bytes are found to be. `judgmentNumber` and `headOf` in specs/ give the number and values of document 01 (docs/SCHEME.md, 11) for each case.
+// What bytes are found to be. `outcomeOf` in specs/ gives each case in the numbers of documents 01 and 02 (docs/SCHEME.md, 11).
 pub enum Judgment {
     // A share, and its head.
     Complete(Head),
-    // 7: the beginning of some share, but not all of it. 8: neither. Reading also has 6.
+    // 7: the beginning of some share, but not all of it. Reading also has 6.
     Refused(Refusal),
+    // 8 to 12: neither, and the index of the first byte that can't stand there.
+    Malformed(Refusal, usize),
 }
 
 // Judges any bytes without copying letters: a share and its head, the beginning of one (7, no bytes included), or
-// neither (8).
+// neither: what is wrong with them (8 to 12), and where.
 pub fn judge(share: &[u8]) -> Judgment
-    ensures { λ r. ⌜ Judges (now (share .entry)) (judgmentNumber r) (headOf r) ⌝ }
+    ensures { λ r. ⌜ Judges (now (share .entry)) (outcomeOf r) ⌝ }
 {
     let head = kind1::head_in(share);
     let letters = kind1::total(head);
     let at = search::first_wrong(share, 0, head, letters);
     judged(kind1::SIZE, head, letters, at, share.len())
+}
+
+// How many of these bytes can stand, from the front: all of them where they are a share or the beginning of one, else as many as stand before
+// the first that can't.
+pub fn good_bytes(share: &[u8]) -> usize
+    ensures { λ r. ⌜ CanStandTo (now (share .entry)) r ⌝ }
+{
+    let head = kind1::head_in(share);
+    search::first_wrong(share, 0, head, kind1::total(head))
 }
 
 // How many bytes have to be in before a share with this head is complete: all of them, its end too.
@@ -44,7 +56,7 @@ pub fn judged(front: usize, head: Head, letters: usize, at: usize, count: usize)
     ensures { λ r. ⌜ r ≡ judgmentAt front head letters at count ⌝ }
 {
     if at < count {
-        return Judgment::Refused(Refusal::Malformed);
+        return Judgment::Malformed(refusing::refusal_at(front, letters, at), at);
     }
     if count == bytes_to_see(front, letters) {
         return Judgment::Complete(head);

@@ -7,7 +7,7 @@ use mathlib.Core.Logic.{_⊎_, inl, inr, ⊎-elim}
 use Prim.Native.Nat.{ℕ, zero, suc, _+_, _*_, _/_, _%_, _≤_, _<_}
 use native.Mathlib.Omega.{arith}
 use lib.ListN.{length, getD, take, drop, length-append, length-drop, take-append-drop}
-use lib.Seq.{ext-getD, getD-take, length-take-le}
+use lib.Seq.{ext-getD, getD-take, take-take, length-take-le}
 use Rattle.letters.proofs.Cases.{le-or-lt, eq-or-ne}
 use Rattle.records.specs.Records.{blockLetters, sizeFor}
 use Rattle.records.specs.Steps.Places.{letterIn}
@@ -45,7 +45,7 @@ module _ {Head : Type 0} (y : Layout Head) (law : Lawful y) where
   pub share-total : (h : Head) (letters xs : List ℕ) → ShareOf y h letters xs → totalIn y xs ≡ length letters
   share-total h letters xs s = ap (y .total) (share-head h letters xs s) ∙ sym (s .count)
 
-  share-front : (h : Head) (letters xs : List ℕ) → ShareOf y h letters xs → sizeIn y xs ≡ length (y .headRecord h)
+  pub share-front : (h : Head) (letters xs : List ℕ) → ShareOf y h letters xs → sizeIn y xs ≡ length (y .headRecord h)
   share-front h letters xs s = ap (sizeIn y) (s .is) ∙ own-size y law h letters (s .allowed)
 
   -- and they are as many as it says
@@ -233,12 +233,16 @@ module _ {Head : Type 0} (y : Layout Head) (law : Lawful y) where
   neither-offends xs bytes n =
       ⊎-elim (λ s. absurd (n .0 s)) (λ w. ⊎-elim (λ b. absurd (n .1 b)) (λ o. o) w) (one-of-three xs bytes)
 
-  pub one-place : (xs : List ℕ) (q q′ : ℕ) → Bytes xs → Offends y xs q → Offends y xs q′ → q ≡ q′
-  one-place xs q q′ bytes o o′ =
+  pub one-place : (xs : List ℕ) (q q′ : ℕ) → Offends y xs q → Offends y xs q′ → q ≡ q′
+  one-place xs q q′ o o′ =
       ⊎-elim (λ le. ⊎-elim (λ ge. omega arith) (λ lt. absurd (two q q′ o o′ lt)) (le-or-lt q′ q)) (λ lt. absurd (two q′ q o′ o lt)) (le-or-lt q q′)
     where
+      -- bytes that a share can have first begin with bytes that it can
       two : (q q′ : ℕ) → Offends y xs q → Offends y xs q′ → q < q′ → ⊥
-      two q q′ o o′ lt = not-both (stands y xs q) (wrong-if xs q′ bytes o′ .before q lt) (wrong-if xs q bytes o .wrong)
+      two q q′ o o′ lt = offends-not-stand (take q′ xs) q (record { within = omega (arith, o′ .within, length-take-le q′ xs (omega (arith, o′ .within))); before = rw (cut q (omega arith)) (o .before); not-with = rw (cut (q + 1) (omega arith)) (o .not-with) }) (o′ .before)
+        where
+          cut : (m : ℕ) → m ≤ q′ → take m (take q′ xs) ≡ take m xs
+          cut m le = take-take m q′ xs le
 
   pub exactly-one : (xs : List ℕ) → Bytes xs → ExactlyOne y xs
   exactly-one xs bytes =
@@ -246,5 +250,5 @@ module _ {Head : Type 0} (y : Layout Head) (law : Lawful y) where
         one = one-of-three xs bytes;
         not-first-two = not-share-and-beginning xs;
         not-with-third = offends-neither xs;
-        place = λ q q′. one-place xs q q′ bytes;
+        place = one-place xs;
       }

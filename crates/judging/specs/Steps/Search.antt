@@ -3,10 +3,11 @@ use mathlib.Core.Path.{_≡_}
 use mathlib.Core.Bool.{Bool, true, false, cond}
 use mathlib.Core.List.{List}
 use Prim.Native.Nat.{ℕ, _+_, _*_, _≤_, _<_}
-use lib.Dec.{ltb, eqb}
+use lib.Dec.{leb, ltb, eqb}
 use lib.ListN.{length, getD}
 use Rattle.group.specs.declared.Refusal.{Refusal}
-use Rattle.records.specs.Records.{blockSize, totalLimit, sizeFor}
+use Rattle.group.specs.declared.Refusal.the-variants.{Unfinished, Kind, HeadNumber, Filler, Total, AfterEnd}
+use Rattle.records.specs.Records.{blockSize, totalLimit, blocks, sizeFor}
 use Rattle.records.specs.Steps.Places.{standsIn, recordAt, offsetAt}
 use Rattle.layout.specs.Steps.Stands.{stands}
 use Rattle.heads.specs.Kind1.{kind1Size, kind1Tests}
@@ -35,8 +36,16 @@ pub record Stops (xs : List ℕ) (q : ℕ) : Type 0 where
   pub before : (p : ℕ) → p < q → stands heads xs p ≡ true
   pub wrong : q < length xs → stands heads xs q ≡ false
 
+-- how a byte is refused that can't stand at this index of a share of so many letters whose head has this size
+unfoldable pub refusalAt : ℕ → ℕ → ℕ → Refusal
+refusalAt front letters at =
+    cond (leb (sizeFor front letters) at) AfterEnd
+    (cond (eqb (offsetAt front at) 0) Kind
+    (cond (ltb at front) HeadNumber
+    (cond (ltb at (front + blocks letters * blockSize)) Filler Total)))
+
 -- the judgment of so many bytes that stand up to this index, with a head of this size: all of them do where there is no more
 abbrev pub judgmentAt : ℕ → Head → ℕ → ℕ → ℕ → Judgment
 judgmentAt front h letters at count =
-    cond (ltb at count) (Judgment.Refused Refusal.Malformed)
-    (cond (eqb count (sizeFor front letters)) (Judgment.Complete h) (Judgment.Refused Refusal.Unfinished))
+    cond (ltb at count) (Judgment.Malformed (refusalAt front letters at) at)
+    (cond (eqb count (sizeFor front letters)) (Judgment.Complete h) (Judgment.Refused Unfinished))
