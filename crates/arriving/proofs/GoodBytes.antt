@@ -5,17 +5,15 @@ use mathlib.Core.List.{List}
 use mathlib.Core.Logic.{_↔_, ⊎-elim}
 use Prim.Native.Nat.{ℕ, zero, suc, _+_, _≤_, _<_}
 use native.Mathlib.Omega.{arith}
-use lib.ListN.{length, take}
+use lib.ListN.{length}
 use Rattle.letters.specs.Lanes.{Bytes}
 use Rattle.letters.proofs.Cases.{le-or-lt}
-use Rattle.layout.specs.Judgment.{CanStand, Offends}
 use Rattle.layout.specs.Steps.Stands.{stands}
-use Rattle.layout.proofs.Judgments.{not-both, accepted-take, bytes-take, stands-before, offends-if, wrong-if}
-use Rattle.layout.proofs.Completing.{can-stand}
 use Rattle.heads.specs.Heads.{heads}
-use Rattle.heads.proofs.Kind1Laws.{lawful}
+use Rattle.judging.specs.Judging.{CanStandTo}
 use Rattle.judging.specs.Steps.Search.{Stops}
-use Rattle.arriving.specs.States.{CanStandTo, upTo, goodBytes}
+use Rattle.judging.proofs.Verdicts.{stand-to, stops-at, stops-once}
+use Rattle.arriving.specs.States.{upTo, goodBytes}
 
 -- from i on, so many at most, up to q
 record Run (f : ℕ → Bool) (i count q : ℕ) : Type 0 where
@@ -46,41 +44,12 @@ good-stops xs =
     let w = runs (stands heads xs) 0 (length xs) in
     record { within = omega (arith, w .until); before = λ p h. w .before p (omega arith) h; wrong = λ h. w .stop (omega arith) }
 
--- the search stops at one place
-pub stops-once : (xs : List ℕ) (q q′ : ℕ) → Stops xs q → Stops xs q′ → q ≡ q′
-stops-once xs q q′ s s′ =
-    ⊎-elim
-    (λ le. ⊎-elim (λ ge. omega arith) (λ lt. absurd (two q q′ s s′ lt)) (le-or-lt q′ q))
-    (λ lt. absurd (two q′ q s′ s lt))
-    (le-or-lt q q′)
-  where
-    two : (q q′ : ℕ) → Stops xs q → Stops xs q′ → q < q′ → ⊥
-    two q q′ s s′ lt = not-both (stands heads xs q) (s′ .before q lt) (s .wrong (omega (arith, s′ .within)))
-
 pub good-is : (xs : List ℕ) (q : ℕ) → Stops xs q → goodBytes xs ≡ q
 good-is xs q s = stops-once xs (goodBytes xs) q (good-stops xs) s
 
 -- In document 01's words: the bytes counted can stand, and where there is one more, it is the first that no share has there.
-pub good-stand : (xs : List ℕ) → Bytes xs → CanStand heads (take (goodBytes xs) xs)
-good-stand xs bytes =
-    let s = good-stops xs in
-    can-stand heads lawful (take (goodBytes xs) xs) (bytes-take heads lawful xs (goodBytes xs) (s .within) bytes)
-    (accepted-take heads lawful xs (goodBytes xs) (s .within) (s .before))
-
-pub next-offends : (xs : List ℕ) → Bytes xs → goodBytes xs < length xs → Offends heads xs (goodBytes xs)
-next-offends xs bytes h =
-    let s = good-stops xs in offends-if heads lawful xs (goodBytes xs) bytes h (record { before = s .before; wrong = s .wrong h })
-
 pub good-exactly : (xs : List ℕ) → Bytes xs → (q : ℕ) → (goodBytes xs ≡ q) ↔ CanStandTo xs q
-good-exactly xs bytes q = (λ e. subst (CanStandTo xs) e good, λ w. good-is xs q (stops w))
-  where
-    good : CanStandTo xs (goodBytes xs)
-    good = record { within = good-stops xs .within; before = good-stand xs bytes; next = next-offends xs bytes }
-
-    stops : CanStandTo xs q → Stops xs q
-    stops w =
-        record {
-          within = w .within;
-          before = stands-before heads lawful xs q (w .within) (w .before);
-          wrong = λ h. wrong-if heads lawful xs q bytes (w .next h) .wrong;
-        }
+good-exactly xs bytes q = (
+  λ e. subst (CanStandTo xs) e (stand-to xs bytes (goodBytes xs) (good-stops xs)),
+  λ w. good-is xs q (stops-at xs bytes q w),
+)

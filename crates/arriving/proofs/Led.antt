@@ -1,17 +1,16 @@
 -- Which states bytes lead to: exactly those whose numbers are a head's where so many bytes can stand, with a wrong byte only where some byte
 -- can be wrong. So whether bytes lead to a state is decided from its numbers.
 use mathlib.Core.Path.{_≡_, refl, sym, ap, ap₂, subst, _∙_}
-use mathlib.Core.Bool.{cond}
 use mathlib.Core.List.{List, [], _∷_, _++_}
 use mathlib.Core.Logic.{inl, inr, ⊎-elim}
-use Prim.Native.Nat.{ℕ, suc, _+_, _^_, _≤_, _<_}
+use Prim.Native.Nat.{ℕ, suc, _+_, _^_, _<_}
 use native.Mathlib.Omega.{arith}
-use lib.Dec.{ltb}
 use lib.ListN.{length, getD, take, length-append}
 use lib.Seq.{take-length, take-all, take-suc, take-at, length-take-le, getD-at}
 use borrow.Author.Tests.{lt-ltb, le-ltb}
 use Rattle.letters.specs.Lanes.{Bytes}
 use Rattle.letters.proofs.Cases.{le-or-lt, eq-or-ne}
+use Rattle.group.proofs.Refusals.{numbered, small-number}
 use Rattle.layout.specs.Steps.Stands.{stands}
 use Rattle.layout.proofs.Accepted.{stands-with}
 use Rattle.layout.proofs.Completing.{bytes-next}
@@ -21,26 +20,30 @@ use Rattle.heads.specs.Kind1.{kind1Size}
 use Rattle.heads.specs.Heads.{heads}
 use Rattle.heads.specs.Steps.Partly.{headAfter}
 use Rattle.heads.proofs.Kind1Laws.{lawful}
-use Rattle.judging.specs.Steps.Search.{standsAt, Stops, StopsFrom}
+use Rattle.judging.specs.Steps.Search.{standsAt, Stops, StopsFrom, refusalAt}
 use Rattle.judging.proofs.Joining.{stands-at, joined}
 use Rattle.arriving.specs.declared.Arriving.{Arriving}
-use Rattle.arriving.specs.States.{goodBytes, stateWith, headSoFar, stateOf, Leads}
+use Rattle.arriving.specs.States.{goodBytes, numberAt, stateWith, headSoFar, stateTo, stateOf, Leads}
 use Rattle.arriving.specs.Steps.Reaching.{HeadAt, CanBeWrong, Led}
 use Rattle.arriving.proofs.GoodBytes.{good-stops, good-is}
 use Rattle.arriving.proofs.BytesBehind.{Behind, numbers-of, grown, some-behind}
 
 -- the state, where it is known at which byte the search stops
-state-at : (xs : List ℕ) (q : ℕ) → Stops xs q → stateOf xs ≡ stateWith q (cond (ltb q (length xs)) 1 0) (heads .headIn (take q xs))
+state-at : (xs : List ℕ) (q : ℕ) → Stops xs q → stateOf xs ≡ stateTo xs q
 unfolding stateOf
-state-at xs q s = ap (λ q. stateWith q (cond (ltb q (length xs)) 1 0) (heads .headIn (take q xs))) (good-is xs q s)
+state-at xs q s = ap (stateTo xs) (good-is xs q s)
 
 pub all-stand : (xs : List ℕ) (h : Head) (at : ℕ) → Stops xs at → length xs ≡ at → heads .headIn xs ≡ h → stateOf xs ≡ stateWith at 0 h
 all-stand xs h at s long told =
     state-at xs at s
     ∙ ap₂ (stateWith at) (simp (le-ltb at (length xs) (omega arith))) (ap (heads .headIn) (take-all at xs (omega arith)) ∙ told)
 
-pub one-wrong : (xs : List ℕ) (q : ℕ) → Stops xs q → q < length xs → stateOf xs ≡ stateWith q 1 (heads .headIn (take q xs))
-one-wrong xs q s h = state-at xs q s ∙ ap (λ w. stateWith q w (heads .headIn (take q xs))) (simp (lt-ltb q (length xs) h))
+pub one-wrong :
+    (xs : List ℕ) (q : ℕ) (h : Head) → Stops xs q → q < length xs → heads .headIn (take q xs) ≡ h → stateOf xs ≡ stateWith q (numberAt (heads .total h) q) h
+one-wrong xs q h s more told =
+    state-at xs q s
+    ∙ ap (λ w. stateWith q w (heads .headIn (take q xs))) (simp (lt-ltb q (length xs) more))
+    ∙ ap (λ h. stateWith q (numberAt (heads .total h) q) h) told
 
 -- what is known of bytes that lead to a state: where no byte is wrong,
 pub record AllStand (xs : List ℕ) (s : Arriving) : Type 0 where
@@ -49,7 +52,7 @@ pub record AllStand (xs : List ℕ) (s : Arriving) : Type 0 where
 
 -- and where one is
 pub record OneWrong (xs : List ℕ) (s : Arriving) : Type 0 where
-  pub one : s .wrong ≡ 1
+  pub number : s .wrong ≡ numberAt (heads .total (headSoFar s)) (s .at)
   pub past : s .at < length xs
   pub stops : Stops xs (s .at)
   pub behind : Behind (take (s .at) xs) (headSoFar s) (s .at)
@@ -72,14 +75,17 @@ module _ (xs : List ℕ) (bytes : Bytes xs) where
       all : goodBytes xs ≡ length xs
       all =
           ⊎-elim (λ past. omega (arith, good-stops xs .within))
-          (λ more. let z : 1 ≡ 0 = simp (lt-ltb (goodBytes xs) (length xs) more) at none in absurd (omega arith))
+          (λ more.
+          absurd
+          (numbered (refusalAt kind1Size (heads .total (heads .headIn (take (goodBytes xs) xs))) (goodBytes xs))
+          (simp (lt-ltb (goodBytes xs) (length xs) more) at none)))
           (le-or-lt (length xs) (goodBytes xs))
 
   wrong : (stateOf xs .wrong ≡ 0 → ⊥) → OneWrong xs (stateOf xs)
   unfolding stateOf
   wrong some =
       record {
-        one = simp (lt-ltb (goodBytes xs) (length xs) more);
+        number = simp (lt-ltb (goodBytes xs) (length xs) more);
         past = more;
         stops = s;
         behind =
@@ -131,13 +137,13 @@ module _ (s : Arriving) (led : Leads s) where
   batch-led =
       ⊎-elim (λ long. numbers-led .whole long .batch) (λ few. omega (arith, numbers-led .partly few .fits .batch)) (le-or-lt kind1Size (s .at))
 
-  pub wrong-led : (s .wrong ≡ 0 → ⊥) → (s .wrong ≡ 1) × CanBeWrong (headSoFar s) (s .at)
+  pub wrong-led : (s .wrong ≡ 0 → ⊥) → (s .wrong ≡ numberAt (heads .total (headSoFar s)) (s .at)) × CanBeWrong (headSoFar s) (s .at)
   wrong-led some =
       let w = led-wrong (led .0) (led .1) s (led .2) some in
       let xs = led .0 in
       let q = s .at in
       let byte = getD xs q 0 in (
-        w .one,
+        w .number,
         (
           byte,
           led .1 .below q (w .past),
@@ -150,8 +156,10 @@ module _ (s : Arriving) (led : Leads s) where
         ),
       )
 
-  pub flag-small : s .wrong ≤ 1
-  flag-small = ⊎-elim (λ none. omega arith) (λ some. omega (arith, wrong-led some .0)) (eq-or-ne (s .wrong) 0)
+  pub number-small : s .wrong < 256
+  number-small =
+      ⊎-elim (λ none. omega arith)
+      (λ some. omega (arith, wrong-led some .0, small-number (refusalAt kind1Size (heads .total (headSoFar s)) (s .at)))) (eq-or-ne (s .wrong) 0)
 
 -- and from the numbers to the bytes
 module _ (s : Arriving) (w : HeadAt (headSoFar s) (s .at)) where
@@ -171,8 +179,8 @@ module _ (s : Arriving) (w : HeadAt (headSoFar s) (s .at)) where
         ∙ ap (λ w. stateWith (s .at) w (headSoFar s)) (sym none),
   )
 
-  pub leads-wrong : s .wrong ≡ 1 → CanBeWrong (headSoFar s) (s .at) → Leads s
-  leads-wrong one c =
+  pub leads-wrong : s .wrong ≡ numberAt (heads .total (headSoFar s)) (s .at) → CanBeWrong (headSoFar s) (s .at) → Leads s
+  leads-wrong number c =
       let byte = c .0 in
       let xs = zs ++ byte ∷ [] in
       let here : s .at + 0 ≡ s .at = omega arith in
@@ -183,8 +191,9 @@ module _ (s : Arriving) (w : HeadAt (headSoFar s) (s .at)) where
       in (
         xs,
         bytes-next zs byte (b .bytes) (c .1),
-        one-wrong xs (s .at) stops (omega (arith, length-append zs (byte ∷ []), b .long))
-            ∙ ap₂ (stateWith (s .at)) (sym one) (ap (heads .headIn) (take-at zs (byte ∷ []) (s .at) (b .long)) ∙ b .told),
+        one-wrong xs (s .at) (headSoFar s) stops (omega (arith, length-append zs (byte ∷ []), b .long))
+            (ap (heads .headIn) (take-at zs (byte ∷ []) (s .at) (b .long)) ∙ b .told)
+            ∙ ap (λ w. stateWith (s .at) w (headSoFar s)) (sym number),
       )
 
 -- The same by a head that is known to be the state's, as the code has it.
@@ -199,12 +208,14 @@ module _ (s : Arriving) (h : Head) (e : h ≡ headSoFar s) where
   known-led led =
       record {
         numbers = known-numbers led;
-        flag = ⊎-elim inl (λ some. inr (wrong-led s led some .0)) (eq-or-ne (s .wrong) 0);
+        number = ⊎-elim inl (λ some. inr (rw e (wrong-led s led some .0))) (eq-or-ne (s .wrong) 0);
         byte = λ some. rw e (wrong-led s led some .1);
       }
 
   pub led-known : Led h (s .at) (s .wrong) → Leads s
   led-known w =
       ⊎-elim (known-right (w .numbers))
-      (λ one. leads-wrong s (subst (λ h. HeadAt h (s .at)) e (w .numbers)) one (subst (λ h. CanBeWrong h (s .at)) e (w .byte (λ none. omega arith))))
-      (w .flag)
+      (λ number.
+      leads-wrong s (subst (λ h. HeadAt h (s .at)) e (w .numbers)) (number ∙ ap (λ h. numberAt (heads .total h) (s .at)) e)
+      (subst (λ h. CanBeWrong h (s .at)) e (w .byte (λ none. numbered (refusalAt kind1Size (heads .total h) (s .at)) (sym number ∙ none)))))
+      (w .number)

@@ -1,32 +1,35 @@
 -- The contracts of the state's calls allow one outcome each.
 use mathlib.Core.Path.{_≡_, refl, sym, ap, ap₂, _∙_}
 use mathlib.Core.Bool.{Bool, true, false}
-use mathlib.Core.List.{List}
+use mathlib.Core.List.{List, _++_}
 use mathlib.Core.Logic.{_↔_, ⊎-elim}
-use Prim.Native.Nat.{ℕ, _+_, _≤_, _<_}
+use Prim.Native.Nat.{ℕ, _+_, _≤_}
 use native.Mathlib.Omega.{arith}
+use lib.ListN.{length}
 use Rattle.letters.specs.Lanes.{Bytes}
-use Rattle.letters.proofs.Cases.{le-or-lt, eq-or-ne}
-use Rattle.group.proofs.Outcomes.{refusal-once}
-use Rattle.group.proofs.Refusals.{numbered}
+use Rattle.letters.proofs.Cases.{eq-or-ne}
+use Rattle.group.specs.Answers.{Outcome}
+use Rattle.group.proofs.Outcomes.{named, named-number}
 use Rattle.records.specs.Records.{sizeFor}
+use Rattle.layout.specs.Share.{ShareOf}
 use Rattle.layout.specs.Judgment.{IsNeither, CanStand}
-use Rattle.layout.proofs.Completing.{can-stand}
-use Rattle.layout.proofs.Judgments.{not-both, stands-either}
+use Rattle.layout.proofs.Judgments.{not-both, stands-either, offends-neither}
 use Rattle.heads.specs.declared.Head.{Head}
 use Rattle.heads.specs.Kind1.{kind1Size}
 use Rattle.heads.specs.Heads.{heads}
 use Rattle.heads.proofs.Kind1Laws.{lawful}
 use Rattle.judging.specs.declared.Judgment.{Judgment}
-use Rattle.judging.specs.Judging.{Judges, judgmentNumber, headOf, noHead}
+use Rattle.judging.specs.Judging.{outcomeOf, Judges, CanStandTo}
 use Rattle.judging.specs.Steps.Search.{judgmentAt}
-use Rattle.judging.proofs.Outcomes.{one-judgment, same-judging}
+use Rattle.judging.proofs.Verdicts.{found-wrong, one-good}
+use Rattle.judging.proofs.Outcomes.{same-judging, outcome-once}
 use Rattle.arriving.specs.declared.Arriving.{Arriving}
 use Rattle.arriving.specs.declared.Coming.{Coming}
 use Rattle.arriving.specs.States.{headSoFar, stateOf, Leads}
-use Rattle.arriving.specs.Calls.{Takes, JudgesState, Announces, comingNumber, comingHead, comingBytes}
+use Rattle.arriving.specs.Calls.{Takes, JudgesState, GoodBytesOf, comingOf, Announces}
+use Rattle.arriving.proofs.BytesBehind.{Behind}
 use Rattle.arriving.proofs.Led.{led-right}
-use Rattle.arriving.proofs.Telling.{of-bytes, wrong-neither, share-told}
+use Rattle.arriving.proofs.Telling.{of-bytes, stands-to, wrong-neither, share-told}
 
 -- `reached`
 pub reached-once : (s : Arriving) (r r′ : Bool) → (r ≡ true) ↔ Leads s → (r′ ≡ true) ↔ Leads s → r ≡ r′
@@ -60,91 +63,94 @@ taken-once s ys r r′ t t′ =
     let none : Leads s → ⊥ = λ led. differ (sym (t .led (led .0) (led .1) (led .2)) ∙ t′ .led (led .0) (led .1) (led .2)) in
     differ (t .forged none ∙ sym (t′ .forged none)))
 
--- number, head and bytes tell the answer
-one-coming : (r r′ : Coming) → comingNumber r ≡ comingNumber r′ → comingHead r ≡ comingHead r′ → comingBytes r ≡ comingBytes r′ → r ≡ r′
-one-coming (Coming.Share h c) (Coming.Share h′ c′) e f g = ap₂ Coming.Share f g
-one-coming (Coming.Share h c) (Coming.Refused a) e f g = absurd (numbered a (sym e))
-one-coming (Coming.Refused a) (Coming.Share h c) e f g = absurd (numbered a e)
-one-coming (Coming.Refused a) (Coming.Refused b) e f g = ap Coming.Refused (refusal-once a b e)
+-- an outcome with other values
+abbrev changed : {A B : Type 0} → (A → B) → Outcome A → Outcome B
+changed f (Outcome.fine v) = Outcome.fine (f v)
+changed f (Outcome.refused n) = Outcome.refused n
+changed f (Outcome.wrong n q) = Outcome.wrong n q
 
--- `judge`: what bytes are that lead to the state is told by its numbers
+-- what is coming is told by its numbers
+back : Outcome (Head × ℕ) → Coming
+back (Outcome.fine v) = Coming.Share (v .0) (v .1)
+back (Outcome.refused n) = Coming.Refused (named n)
+back (Outcome.wrong n q) = Coming.Malformed (named n) q
+
+told-back : (r : Coming) → back (comingOf r) ≡ r
+unfolding back
+told-back (Coming.Share h bytes) = refl
+told-back (Coming.Refused r) = ap Coming.Refused (named-number r)
+told-back (Coming.Malformed r q) = ap (λ r. Coming.Malformed r q) (named-number r)
+
+-- what is told from a state is told by its numbers, whichever bytes lead there
 module _ (s : Arriving) where
   abbrev told : Judgment
   told = judgmentAt kind1Size (headSoFar s) (heads .total (headSoFar s)) (s .at) (s .at + s .wrong)
 
-  pub same-number : {n n′ : ℕ} {h h′ : Head} → JudgesState s n h → JudgesState s n′ h′ → (n ≡ n′) × (h ≡ h′)
-  same-number (JudgesState.led xs bytes e n h j) (JudgesState.led xs′ bytes′ e′ n′ h′ j′) =
-      let a = same-judging j (of-bytes s _ refl told refl xs bytes e) in
-      let b = same-judging j′ (of-bytes s _ refl told refl xs′ bytes′ e′) in
-      (a .0 ∙ sym (b .0), a .1 ∙ sym (b .1))
-  same-number (JudgesState.led xs bytes e n h j) (JudgesState.forged none) = absurd (none (xs, bytes, e))
-  same-number (JudgesState.forged none) (JudgesState.led xs bytes e n h j) = absurd (none (xs, bytes, e))
-  same-number (JudgesState.forged none) (JudgesState.forged none′) = (refl, refl)
+  as-told : {r : Outcome Head} (xs : List ℕ) → Bytes xs → stateOf xs ≡ s → Judges xs r → r ≡ outcomeOf told
+  as-told xs bytes e j = same-judging j (of-bytes s _ refl told refl xs bytes e)
+
+  pub same-judgment : {r r′ : Outcome Head} → JudgesState s r → JudgesState s r′ → r ≡ r′
+  same-judgment (JudgesState.led xs bytes e r j) (JudgesState.led xs′ bytes′ e′ r′ j′) = as-told xs bytes e j ∙ sym (as-told xs′ bytes′ e′ j′)
+  same-judgment (JudgesState.led xs bytes e r j) (JudgesState.forged none) = absurd (none (xs, bytes, e))
+  same-judgment (JudgesState.forged none) (JudgesState.led xs bytes e r j) = absurd (none (xs, bytes, e))
+  same-judgment (JudgesState.forged none) (JudgesState.forged none′) = refl
 
   -- so the state is judged as any bytes are that lead there
-  pub judged-as-bytes : {n : ℕ} {h : Head} → JudgesState s n h → (xs : List ℕ) → Bytes xs → stateOf xs ≡ s → Judges xs n h
-  judged-as-bytes (JudgesState.led zs more led n h j) xs bytes e =
-      let w = same-judging j (of-bytes s _ refl told refl zs more led) in rw (w .0, w .1) (of-bytes s _ refl told refl xs bytes e)
+  pub judged-as-bytes : {r : Outcome Head} → JudgesState s r → (xs : List ℕ) → Bytes xs → stateOf xs ≡ s → Judges xs r
+  judged-as-bytes (JudgesState.led zs more led r j) xs bytes e = rw (as-told zs more led j) (of-bytes s _ refl told refl xs bytes e)
   judged-as-bytes (JudgesState.forged none) xs bytes e = absurd (none (xs, bytes, e))
 
-  pub judged-once : (r r′ : Judgment) → JudgesState s (judgmentNumber r) (headOf r) → JudgesState s (judgmentNumber r′) (headOf r′) → r ≡ r′
-  judged-once r r′ a b = let w = same-number a b in one-judgment r r′ (w .0) (w .1)
+  -- `judge`
+  pub judged-once : (r r′ : Judgment) → JudgesState s (outcomeOf r) → JudgesState s (outcomeOf r′) → r ≡ r′
+  judged-once r r′ a b = outcome-once r r′ (same-judgment a b)
 
-  -- `coming`: number, head and bytes are told by the state's numbers, too
-  abbrev Is : ℕ → Head → ℕ → ℕ → Head → ℕ → Type 0
-  Is n h c n′ h′ c′ = (n ≡ n′) × (h ≡ h′) × (c ≡ c′)
+  -- `good_bytes`
+  counted : (xs : List ℕ) → Bytes xs → stateOf xs ≡ s → (q : ℕ) → CanStandTo xs q → q ≡ s .at
+  counted xs bytes e q w = one-good xs bytes q (s .at) w (stands-to xs bytes s e)
 
-  clash : (xs : List ℕ) → Bytes xs → IsNeither heads xs → CanStand heads xs → ⊥
-  clash xs bytes bad stand = ⊎-elim (bad .0) (bad .1) (stands-either heads lawful xs bytes stand)
+  pub good-once : {q q′ : ℕ} → GoodBytesOf s q → GoodBytesOf s q′ → q ≡ q′
+  good-once (GoodBytesOf.led xs bytes e q w) (GoodBytesOf.led xs′ bytes′ e′ q′ w′) = counted xs bytes e q w ∙ sym (counted xs′ bytes′ e′ q′ w′)
+  good-once (GoodBytesOf.led xs bytes e q w) (GoodBytesOf.forged none) = absurd (none (xs, bytes, e))
+  good-once (GoodBytesOf.forged none) (GoodBytesOf.led xs bytes e q w) = absurd (none (xs, bytes, e))
+  good-once (GoodBytesOf.forged none) (GoodBytesOf.forged none′) = refl
 
-  -- where a byte is wrong,
-  wrong : {n c : ℕ} {h : Head} → Announces s n h c → (s .wrong ≡ 0 → ⊥) → Leads s → Is n h c 8 noHead 0
-  wrong (Announces.known xs bytes e long h ys letters share) some led = absurd (clash xs bytes (wrong-neither xs bytes s e some) (ys, (h, letters, share)))
-  wrong (Announces.early xs bytes e few stand) some led = absurd (clash xs bytes (wrong-neither xs bytes s e some) stand)
-  wrong (Announces.malformed xs bytes e bad) some led = (refl, refl, refl)
-  wrong (Announces.forged none) some led = absurd (none led)
+  -- `coming`: bytes that can stand are those of a state with no wrong byte,
+  clash : (xs : List ℕ) → Bytes xs → CanStand heads xs → IsNeither heads xs → ⊥
+  clash xs bytes stand bad = ⊎-elim (bad .0) (bad .1) (stands-either heads lawful xs bytes stand)
 
-  -- before the head is in,
-  early : {n c : ℕ} {h : Head} → Announces s n h c → s .wrong ≡ 0 → s .at < kind1Size → Leads s → Is n h c 7 noHead 0
-  early (Announces.known xs bytes e long h ys letters share) none few led = absurd (omega (arith, led-right xs bytes s e none .behind .long))
-  early (Announces.early xs bytes e short stand) none few led = (refl, refl, refl)
-  early (Announces.malformed xs bytes e bad) none few led =
-      absurd (clash xs bytes bad (can-stand heads lawful xs bytes (led-right xs bytes s e none .behind .all)))
-  early (Announces.forged bad) none few led = absurd (bad led)
+  behind : (xs : List ℕ) → Bytes xs → stateOf xs ≡ s → CanStand heads xs → Behind xs (headSoFar s) (s .at)
+  behind xs bytes e stand =
+      ⊎-elim (λ none. led-right xs bytes s e none .behind) (λ some. absurd (clash xs bytes stand (wrong-neither xs bytes s e some))) (eq-or-ne (s .wrong) 0)
 
-  -- and after
+  not-wrong : {n q : ℕ} (xs : List ℕ) → Bytes xs → stateOf xs ≡ s → CanStand heads xs → JudgesState s (Outcome.wrong n q) → ⊥
+  not-wrong {q = q} xs bytes e stand j =
+      clash xs bytes stand (offends-neither heads lawful xs q (found-wrong (judged-as-bytes j xs bytes e) .2 .offends))
+
+  -- and their numbers tell the share that is coming
   known :
-      {n c : ℕ} {h : Head} → Announces s n h c → s .wrong ≡ 0 → kind1Size ≤ s .at → Leads s
-      → Is n h c 0 (headSoFar s) (sizeFor kind1Size (heads .total (headSoFar s)))
-  known (Announces.known xs bytes e long h ys letters share) none many led =
-      let w = share-told xs s (led-right xs bytes s e none .behind) many h ys letters share in (refl, w .0, w .1)
-  known (Announces.early xs bytes e short stand) none many led = absurd (omega (arith, led-right xs bytes s e none .behind .long))
-  known (Announces.malformed xs bytes e bad) none many led =
-      absurd (clash xs bytes bad (can-stand heads lawful xs bytes (led-right xs bytes s e none .behind .all)))
-  known (Announces.forged bad) none many led = absurd (bad led)
+      (xs : List ℕ) → Bytes xs → stateOf xs ≡ s → kind1Size ≤ length xs → (h : Head) (ys letters : List ℕ) → ShareOf heads h letters (xs ++ ys)
+      → (kind1Size ≤ s .at) × (_≡_ {A = Head × ℕ} (h, length (xs ++ ys)) (headSoFar s, sizeFor kind1Size (heads .total (headSoFar s))))
+  known xs bytes e long h ys letters share =
+      let b = behind xs bytes e (ys, (h, letters, share)) in
+      let many : kind1Size ≤ s .at = omega (arith, b .long) in
+      let w = share-told xs s b many h ys letters share in
+      (many, ap₂ (λ (h : Head) (n : ℕ). (h, n)) (w .0) (w .1))
 
-  both-are : {n c n′ c′ m b : ℕ} {h h′ g : Head} → Is n h c m g b → Is n′ h′ c′ m g b → Is n h c n′ h′ c′
-  both-are x y = (x .0 ∙ sym (y .0), x .1 ∙ sym (y .1), x .2 ∙ sym (y .2))
+  pub same-coming : {r r′ : Outcome (Head × ℕ)} → Announces s r → Announces s r′ → r ≡ r′
+  same-coming (Announces.known xs bytes e long h ys letters share) (Announces.known xs′ bytes′ e′ long′ h′ ys′ letters′ share′) =
+      ap Outcome.fine (known xs bytes e long h ys letters share .1 ∙ sym (known xs′ bytes′ e′ long′ h′ ys′ letters′ share′ .1))
+  same-coming (Announces.known xs bytes e long h ys letters share) (Announces.early xs′ bytes′ e′ few stand) =
+      absurd (omega (arith, known xs bytes e long h ys letters share .0, behind xs′ bytes′ e′ stand .long))
+  same-coming (Announces.known xs bytes e long h ys letters share) (Announces.malformed n q j) =
+      absurd (not-wrong xs bytes e (ys, (h, letters, share)) j)
+  same-coming (Announces.early xs′ bytes′ e′ few stand) (Announces.known xs bytes e long h ys letters share) =
+      absurd (omega (arith, known xs bytes e long h ys letters share .0, behind xs′ bytes′ e′ stand .long))
+  same-coming (Announces.early xs bytes e few stand) (Announces.early xs′ bytes′ e′ few′ stand′) = refl
+  same-coming (Announces.early xs bytes e few stand) (Announces.malformed n q j) = absurd (not-wrong xs bytes e stand j)
+  same-coming (Announces.malformed n q j) (Announces.known xs bytes e long h ys letters share) =
+      absurd (not-wrong xs bytes e (ys, (h, letters, share)) j)
+  same-coming (Announces.malformed n q j) (Announces.early xs bytes e few stand) = absurd (not-wrong xs bytes e stand j)
+  same-coming (Announces.malformed n q j) (Announces.malformed n′ q′ j′) = ap (changed (λ h. (h, 0))) (same-judgment j j′)
 
-  alike : {n c n′ c′ : ℕ} {h h′ : Head} → Announces s n h c → Announces s n′ h′ c′ → Leads s → Is n h c n′ h′ c′
-  alike x y led =
-      ⊎-elim
-      (λ none.
-      ⊎-elim (λ many. both-are (known x none many led) (known y none many led)) (λ few. both-are (early x none few led) (early y none few led))
-      (le-or-lt kind1Size (s .at)))
-      (λ some. both-are (wrong x some led) (wrong y some led))
-      (eq-or-ne (s .wrong) 0)
-
-  pub same-coming : {n c n′ c′ : ℕ} {h h′ : Head} → Announces s n h c → Announces s n′ h′ c′ → Is n h c n′ h′ c′
-  same-coming (Announces.known xs bytes e long h ys letters share) y = alike (Announces.known xs bytes e long h ys letters share) y (xs, bytes, e)
-  same-coming (Announces.early xs bytes e few stand) y = alike (Announces.early xs bytes e few stand) y (xs, bytes, e)
-  same-coming (Announces.malformed xs bytes e bad) y = alike (Announces.malformed xs bytes e bad) y (xs, bytes, e)
-  same-coming (Announces.forged none) (Announces.known xs bytes e long h ys letters share) = absurd (none (xs, bytes, e))
-  same-coming (Announces.forged none) (Announces.early xs bytes e few stand) = absurd (none (xs, bytes, e))
-  same-coming (Announces.forged none) (Announces.malformed xs bytes e bad) = absurd (none (xs, bytes, e))
-  same-coming (Announces.forged none) (Announces.forged none′) = (refl, refl, refl)
-
-  pub coming-once :
-      (r r′ : Coming) → Announces s (comingNumber r) (comingHead r) (comingBytes r) → Announces s (comingNumber r′) (comingHead r′) (comingBytes r′)
-      → r ≡ r′
-  coming-once r r′ a b = let w = same-coming a b in one-coming r r′ (w .0) (w .1) (w .2)
+  pub coming-once : (r r′ : Coming) → Announces s (comingOf r) → Announces s (comingOf r′) → r ≡ r′
+  coming-once r r′ a b = sym (told-back r) ∙ ap back (same-coming a b) ∙ told-back r′

@@ -10,7 +10,7 @@ use Rattle.heads.specs.Heads.{heads}
 use Rattle.heads.specs.Steps.Partly.{headAfter}
 use Rattle.judging.specs.Steps.Search.{StopsFrom}
 use Rattle.arriving.specs.declared.Arriving.{Arriving}
-use Rattle.arriving.specs.States.{stateWith, headSoFar, Leads}
+use Rattle.arriving.specs.States.{numberAt, stateWith, headSoFar, Leads}
 use Rattle.arriving.specs.Calls.{Takes}
 use Rattle.arriving.specs.Steps.Reaching.{Within, Stepped, HeadAt, PastHead}
 use Rattle.arriving.proofs.BytesBehind.{whole-grown}
@@ -37,7 +37,7 @@ module _ (s : Arriving) (T : ℕ) (w : PastHead s T) where
     pub past-all : q ≡ length ys → Takes s ys (stateWith (s .at + q) 0 (headSoFar s))
     past-all all = takes-all s ys leads (w .none) q (headSoFar s) (grown ys) stops all
 
-    pub past-some : q < length ys → Takes s ys (stateWith (s .at + q) 1 (headSoFar s))
+    pub past-some : q < length ys → Takes s ys (stateWith (s .at + q) (numberAt (heads .total (headSoFar s)) (s .at + q)) (headSoFar s))
     past-some some = takes-some s ys leads (w .none) q (headSoFar s) (grown ys) stops some (headSoFar s) (grown (take q ys))
 
   -- all bytes are stepped over
@@ -55,6 +55,6 @@ module _ (s : Arriving) (T : ℕ) (w : PastHead s T) where
     pub searched-all : n + q ≡ length ys → (r : Arriving) → r ≡ stateWith (s .at + (n + q)) 0 h → Takes s ys r
     searched-all all r is = subst (Takes s ys) (sym (is ∙ ap (stateWith (s .at + (n + q)) 0) e)) (past-all ys (n + q) all-stops all)
 
-    pub searched-some : (n + q ≡ length ys → ⊥) → (r : Arriving) → r ≡ stateWith (s .at + (n + q)) 1 h → Takes s ys r
+    pub searched-some : (n + q ≡ length ys → ⊥) → (r : Arriving) → r ≡ stateWith (s .at + (n + q)) (numberAt (heads .total h) (s .at + (n + q))) h → Takes s ys r
     searched-some more r is =
-        subst (Takes s ys) (sym (is ∙ ap (stateWith (s .at + (n + q)) 1) e)) (past-some ys (n + q) all-stops (omega (arith, all-stops .within, more)))
+        subst (Takes s ys) (sym (is ∙ ap (λ h. stateWith (s .at + (n + q)) (numberAt (heads .total h) (s .at + (n + q))) h) e)) (past-some ys (n + q) all-stops (omega (arith, all-stops .within, more)))

@@ -1,5 +1,5 @@
 -- What taking leaves: in the state of some bytes, that of these and the others after them.
-use mathlib.Core.Path.{_≡_, refl, sym, ap, ap₂, _∙_}
+use mathlib.Core.Path.{_≡_, refl, sym, ap, _∙_}
 use mathlib.Core.List.{List, _++_}
 use Prim.Native.Nat.{ℕ, _+_, _<_}
 use native.Mathlib.Omega.{arith}
@@ -13,7 +13,7 @@ use Rattle.heads.specs.Steps.Partly.{headAfter}
 use Rattle.heads.proofs.Kind1Laws.{lawful}
 use Rattle.judging.specs.Steps.Search.{Stops, StopsFrom}
 use Rattle.arriving.specs.declared.Arriving.{Arriving}
-use Rattle.arriving.specs.States.{stateWith, headSoFar, stateOf, Leads}
+use Rattle.arriving.specs.States.{numberAt, stateWith, headSoFar, stateOf, Leads}
 use Rattle.arriving.specs.Calls.{Takes}
 use Rattle.arriving.proofs.Led.{all-stand, one-wrong, led-right, led-wrong, behind-grown, stops-later}
 
@@ -35,8 +35,9 @@ wrong-stays s ys leads some = record { led = stuck; forged = λ n. absurd (n lea
           wrong = λ l. stands-with heads lawful xs ys (s .at) (w .past) ∙ w .stops .wrong (w .past);
         }
         in
-        one-wrong (xs ++ ys) (s .at) stops (omega (arith, w .past, length-append xs ys))
-        ∙ ap₂ (stateWith (s .at)) (sym (w .one)) (ap (heads .headIn) (take-append-le (s .at) xs ys (omega (arith, w .past))) ∙ w .behind .told)
+        one-wrong (xs ++ ys) (s .at) (headSoFar s) stops (omega (arith, w .past, length-append xs ys))
+        (ap (heads .headIn) (take-append-le (s .at) xs ys (omega (arith, w .past))) ∙ w .behind .told)
+        ∙ ap (λ n. stateWith (s .at) n (headSoFar s)) (sym (w .number))
 
 -- in a state without one, the search through the bytes tells the rest
 module _ (s : Arriving) (ys : List ℕ) (leads : Leads s) (none : s .wrong ≡ 0) (q : ℕ) (g : Head) (e : g ≡ headAfter (headSoFar s) (s .at) ys)
@@ -55,14 +56,15 @@ module _ (s : Arriving) (ys : List ℕ) (leads : Leads s) (none : s .wrong ≡ 0
         forged = λ n. absurd (n leads);
       }
 
-  pub takes-some : q < length ys → (f : Head) → f ≡ headAfter (headSoFar s) (s .at) (take q ys) → Takes s ys (stateWith (s .at + q) 1 f)
+  pub takes-some :
+      q < length ys → (f : Head) → f ≡ headAfter (headSoFar s) (s .at) (take q ys)
+      → Takes s ys (stateWith (s .at + q) (numberAt (heads .total f) (s .at + q)) f)
   takes-some less f ef =
       record {
         led =
             λ xs bytes led.
             let b = led-right xs bytes s led none .behind in
-            one-wrong (xs ++ ys) (s .at + q) (later xs bytes led) (omega (arith, length-append xs ys, b .long))
-            ∙ ap (stateWith (s .at + q) 1)
+            one-wrong (xs ++ ys) (s .at + q) f (later xs bytes led) (omega (arith, length-append xs ys, b .long))
             (ap (λ n. heads .headIn (take (n + q) (xs ++ ys))) (sym (b .long))
             ∙ ap (heads .headIn) (take-append-add xs ys q)
             ∙ sym (ef ∙ behind-grown xs (headSoFar s) (s .at) b (take q ys)));

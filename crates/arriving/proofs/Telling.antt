@@ -1,14 +1,18 @@
 -- What is told from a state is what the bytes are that lead there.
 use mathlib.Core.Path.{_≡_, refl, sym, ap, subst, _∙_}
-use mathlib.Core.List.{List, _++_}
+use mathlib.Core.List.{List, [], _∷_, _++_}
 use mathlib.Core.Logic.{⊎-elim}
 use Prim.Native.Nat.{ℕ, _+_, _≤_, _<_}
 use native.Mathlib.Omega.{arith}
-use lib.ListN.{length, List·getD-append}
+use lib.ListN.{length, take, List·getD-append}
+use lib.Seq.{getD-take}
+use types.Run.{OneOf}
+use denote.Enum.Declared.{tagOf}
 use borrow.Author.Tests.{lt-ltb}
 use Rattle.letters.specs.Lanes.{Bytes}
 use Rattle.letters.proofs.Cases.{eq-or-ne}
-use Rattle.group.specs.declared.Refusal.{Refusal}
+use Rattle.group.specs.declared.Refusal.the-variants.{Unfinished}
+use Rattle.group.specs.Answers.{refusalNumber, Outcome}
 use Rattle.records.specs.Records.{sizeFor}
 use Rattle.layout.specs.Layout.{totalIn}
 use Rattle.layout.specs.Share.{ShareOf}
@@ -20,20 +24,21 @@ use Rattle.heads.specs.Kind1.{kind1Size}
 use Rattle.heads.specs.Heads.{heads}
 use Rattle.heads.proofs.Kind1Laws.{lawful, same-numbers}
 use Rattle.judging.specs.declared.Judgment.{Judgment}
-use Rattle.judging.specs.Judging.{Judges, judgmentNumber, headOf, noHead}
-use Rattle.judging.specs.Steps.Search.{judgmentAt}
-use Rattle.judging.proofs.Verdicts.{judges}
+use Rattle.judging.specs.Judging.{outcomeOf, Judges, CanStandTo}
+use Rattle.judging.specs.Steps.Search.{refusalAt, judgmentAt}
+use Rattle.judging.proofs.Judgment.{the-type}
+use Rattle.judging.proofs.WouldStand.{same-refusal}
+use Rattle.judging.proofs.Verdicts.{judges, found-share, found-beginning, stand-to}
 use Rattle.arriving.specs.declared.Arriving.{Arriving}
-use Rattle.arriving.specs.States.{goodBytes, headSoFar, stateOf, Leads}
-use Rattle.arriving.specs.Calls.{JudgesState, Announces}
-use Rattle.arriving.proofs.GoodBytes.{next-offends}
+use Rattle.arriving.specs.States.{headSoFar, stateOf, Leads}
+use Rattle.arriving.specs.Calls.{JudgesState, GoodBytesOf, Announces}
 use Rattle.arriving.proofs.BytesBehind.{Behind}
 use Rattle.arriving.proofs.Led.{led-right, led-wrong}
 
 -- the judgment
 module _ (s : Arriving) (T : ℕ) (total : T ≡ heads .total (headSoFar s)) (r : Judgment)
     (e : r ≡ judgmentAt kind1Size (headSoFar s) T (s .at) (s .at + s .wrong)) where
-  pub of-bytes : (xs : List ℕ) → Bytes xs → stateOf xs ≡ s → Judges xs (judgmentNumber r) (headOf r)
+  pub of-bytes : (xs : List ℕ) → Bytes xs → stateOf xs ≡ s → Judges xs (outcomeOf r)
   of-bytes xs bytes led =
       ⊎-elim
       (λ none.
@@ -42,23 +47,50 @@ module _ (s : Arriving) (T : ℕ) (total : T ≡ heads .total (headSoFar s)) (r 
       (omega (arith, w .behind .long)) e)
       (λ some.
       let w = led-wrong xs bytes s led some in
-      let bad : r ≡ Judgment.Refused Refusal.Malformed = e ∙ simp (lt-ltb (s .at) (s .at + s .wrong) (omega (arith, w .one))) in
+      let bad : r ≡ Judgment.Malformed (refusalAt kind1Size T (s .at)) (s .at) =
+      e ∙ simp (lt-ltb (s .at) (s .at + s .wrong) (omega (arith, some)))
+      in
+      let same : refusalAt kind1Size T (s .at) ≡ refusalAt kind1Size (totalIn heads xs) (s .at) =
+      ap (λ t. refusalAt kind1Size t (s .at)) (total ∙ ap (heads .total) (sym (w .behind .told)))
+      ∙ same-refusal (take (s .at) xs) xs (s .at) (λ i l. getD-take (s .at) xs i 0 l)
+      in
       judges xs bytes (s .at) (w .stops) kind1Size (heads .headIn xs) (totalIn heads xs) (length xs) r refl refl refl refl
-      (bad ∙ sym (simp (lt-ltb (s .at) (length xs) (w .past)))))
+      (bad ∙ ap (λ r. Judgment.Malformed r (s .at)) same ∙ sym (simp (lt-ltb (s .at) (length xs) (w .past)))))
       (eq-or-ne (s .wrong) 0)
 
-  pub judged-right : Leads s → JudgesState s (judgmentNumber r) (headOf r)
-  judged-right leads = JudgesState.led (leads .0) (leads .1) (leads .2) (judgmentNumber r) (headOf r) (of-bytes (leads .0) (leads .1) (leads .2))
+  pub judged-right : Leads s → JudgesState s (outcomeOf r)
+  judged-right leads = JudgesState.led (leads .0) (leads .1) (leads .2) (outcomeOf r) (of-bytes (leads .0) (leads .1) (leads .2))
 
--- the wrong byte of a state is that of the bytes
-wrong-within : (xs : List ℕ) (s : Arriving) → stateOf xs ≡ s → s .at < length xs → goodBytes xs < length xs
-unfolding stateOf
-wrong-within xs s e l = subst (λ s. s .at < length xs → goodBytes xs < length xs) e (λ l. l) l
+-- so many bytes can stand, of those that lead to a state, as it counts
+pub stands-to : (xs : List ℕ) → Bytes xs → (s : Arriving) → stateOf xs ≡ s → CanStandTo xs (s .at)
+stands-to xs bytes s e =
+    stand-to xs bytes (s .at) (⊎-elim (λ none. led-right xs bytes s e none .stops) (λ some. led-wrong xs bytes s e some .stops) (eq-or-ne (s .wrong) 0))
 
--- so they are neither a share nor the beginning of one
+pub state-stands : (s : Arriving) → Leads s → GoodBytesOf s (s .at)
+state-stands s leads = GoodBytesOf.led (leads .0) (leads .1) (leads .2) (s .at) (stands-to (leads .0) (leads .1) s (leads .2))
+
+-- bytes that are neither a share nor the beginning of one are where a byte is wrong
 pub wrong-neither : (xs : List ℕ) → Bytes xs → (s : Arriving) → stateOf xs ≡ s → (s .wrong ≡ 0 → ⊥) → IsNeither heads xs
 wrong-neither xs bytes s e some =
-    offends-neither heads lawful xs (goodBytes xs) (next-offends xs bytes (wrong-within xs s e (led-wrong xs bytes s e some .past)))
+    let w = led-wrong xs bytes s e some in
+    offends-neither heads lawful xs (s .at) (stands-to xs bytes s e .next (w .past))
+
+-- A state that isn't judged malformed, but as one of the first two cases, is that of bytes that all stand.
+module _ (s : Arriving) where
+  abbrev Fine : Judgment → Type 0
+  Fine r = OneOf (0 ∷ 1 ∷ []) (tagOf the-type r)
+
+  not-third : OneOf (0 ∷ 1 ∷ []) 2 → ⊥
+  not-third o = ⊎-elim (λ e. omega arith) (λ e. omega arith) o
+
+  none-wrong : (xs : List ℕ) → Bytes xs → stateOf xs ≡ s → (IsNeither heads xs → ⊥) → s .wrong ≡ 0
+  none-wrong xs bytes e stands = ⊎-elim (λ none. none) (λ some. absurd (stands (wrong-neither xs bytes s e some))) (eq-or-ne (s .wrong) 0)
+
+  pub judged-fine : (r : Judgment) → JudgesState s (outcomeOf r) → Fine r → Leads s × (s .wrong ≡ 0)
+  judged-fine (Judgment.Complete h) (JudgesState.led xs bytes e _ j) fine =
+      ((xs, bytes, e), none-wrong xs bytes e (λ n. let w = found-share j in n .0 (h, w .0, w .1)))
+  judged-fine (Judgment.Refused r) (JudgesState.led xs bytes e _ j) fine = ((xs, bytes, e), none-wrong xs bytes e (λ n. n .1 (found-beginning j .1)))
+  judged-fine (Judgment.Malformed r q) j fine = absurd (not-third fine)
 
 -- a share that begins with bytes whose head is in has this head, and as many bytes as it says
 pub share-told :
@@ -74,23 +106,20 @@ share-told xs s b long h ys letters share =
 
 -- the share that is coming
 module _ (s : Arriving) (leads : Leads s) where
-  pub announces-wrong : (s .wrong ≡ 0 → ⊥) → Announces s 8 noHead 0
-  announces-wrong some = Announces.malformed (leads .0) (leads .1) (leads .2) (wrong-neither (leads .0) (leads .1) s (leads .2) some)
-
-  pub announces-early : s .wrong ≡ 0 → s .at < kind1Size → Announces s 7 noHead 0
+  pub announces-early : s .wrong ≡ 0 → s .at < kind1Size → Announces s (Outcome.refused (refusalNumber Unfinished))
   announces-early none few =
       let b = led-right (leads .0) (leads .1) s (leads .2) none .behind in
       Announces.early (leads .0) (leads .1) (leads .2) (omega (arith, b .long)) (can-stand heads lawful (leads .0) (leads .1) (b .all))
 
   pub announces-known :
       s .wrong ≡ 0 → kind1Size ≤ s .at → (count T : ℕ) → T ≡ heads .total (headSoFar s) → count ≡ sizeFor kind1Size T
-      → Announces s 0 (headSoFar s) count
+      → Announces s (Outcome.fine (headSoFar s, count))
   announces-known none long count T total size =
       let xs = leads .0 in
       let b = led-right xs (leads .1) s (leads .2) none .behind in
       let c = can-stand heads lawful xs (leads .1) (b .all) in
       let f = share-told xs s b long (c .1 .0) (c .0) (c .1 .1) (c .1 .2) in
       let bytes : length (xs ++ c .0) ≡ count = f .1 ∙ ap (sizeFor kind1Size) (sym total) ∙ sym size in
-      subst (Announces s 0 (headSoFar s)) bytes
+      subst (λ n. Announces s (Outcome.fine (headSoFar s, n))) bytes
       (Announces.known xs (leads .1) (leads .2) (omega (arith, b .long)) (headSoFar s) (c .0) (c .1 .1)
       (subst (λ h. ShareOf heads h (c .1 .1) (xs ++ c .0)) (f .0) (c .1 .2)))

@@ -2,23 +2,18 @@
 use mathlib.Core.Path.{_≡_}
 use mathlib.Core.Bool.{Bool, cond}
 use mathlib.Core.List.{List}
-use Prim.Native.Nat.{ℕ, zero, suc, _≤_, _<_}
+use Prim.Native.Nat.{ℕ, zero, suc}
 use lib.Dec.{ltb}
 use lib.ListN.{length, take}
 use Rattle.letters.specs.Lanes.{Bytes}
+use Rattle.group.specs.Answers.{refusalNumber}
 use Rattle.group.specs.Ranges.{groupOf}
-use Rattle.layout.specs.Judgment.{CanStand, Offends}
 use Rattle.layout.specs.Steps.Stands.{stands}
 use Rattle.heads.specs.declared.Head.{Head}
+use Rattle.heads.specs.Kind1.{kind1Size}
 use Rattle.heads.specs.Heads.{heads}
+use Rattle.judging.specs.Steps.Search.{refusalAt}
 use Rattle.arriving.specs.declared.Arriving.{Arriving}
-
--- So many bytes from the front can stand: a share can have them first, and the next, if there is one, is the first byte that no share has there after
--- those before it.
-pub record CanStandTo (xs : List ℕ) (q : ℕ) : Type 0 where
-  pub within : q ≤ length xs
-  pub before : CanStand heads (take q xs)
-  pub next : q < length xs → Offends heads xs q
 
 -- from i on, so many at most, up to the first at which it fails
 unfoldable pub upTo : (ℕ → Bool) → ℕ → ℕ → ℕ
@@ -29,6 +24,11 @@ upTo f i (suc count) = cond (f i) (upTo f (suc i) count) i
 -- one number that `CanStandTo` allows is `good-exactly` (proofs/GoodBytes.antt).
 abbrev pub goodBytes : List ℕ → ℕ
 goodBytes xs = upTo (stands heads xs) 0 (length xs)
+
+-- The number of what is wrong with a byte that can't stand at this index of a share of so many letters. It is computed by the code's own tests: that it
+-- is the one number that `Wrong` allows is `number-exactly` (proofs/Meaning.antt).
+abbrev pub numberAt : ℕ → ℕ → ℕ
+numberAt letters at = refusalNumber (refusalAt kind1Size letters at)
 
 -- the state with these numbers
 abbrev pub stateWith : ℕ → ℕ → Head → Arriving
@@ -48,9 +48,16 @@ stateWith at wrong h =
 abbrev pub headSoFar : Arriving → Head
 headSoFar s = record { group = groupOf (s .n) (s .k) (s .d) (s .l); node = s .node; batch = s .batch }
 
--- The state that these bytes lead to: how many of them can stand, 1 if more have come, and the head's numbers as those that can stand have them.
+-- the state of bytes of which so many can stand: 0 where these are all, and else the number of what is wrong with the next
+abbrev pub stateTo : List ℕ → ℕ → Arriving
+stateTo xs q =
+    let h = heads .headIn (take q xs) in
+    stateWith q (cond (ltb q (length xs)) (numberAt (heads .total h) q) 0) h
+
+-- The state that these bytes lead to: how many of them can stand, what is wrong with the next if more have come, and the head's numbers as those that can stand
+-- have them.
 unfoldable pub stateOf : List ℕ → Arriving
-stateOf xs = stateWith (goodBytes xs) (cond (ltb (goodBytes xs) (length xs)) 1 0) (heads .headIn (take (goodBytes xs) xs))
+stateOf xs = stateTo xs (goodBytes xs)
 
 -- some bytes lead to this state
 abbrev pub Leads : Arriving → Type 0

@@ -14,10 +14,11 @@ ghost use mathlib.Core.List.{[]};
 ghost use mathlib.Core.Logic.{_↔_};
 ghost use Prim.Native.Nat.{_^_, _≤_, _<_};
 ghost use Rattle.heads.specs.Kind1.{kind1Size};
-ghost use Rattle.judging.specs.Judging.{judgmentNumber, headOf};
-ghost use Rattle.arriving.specs.States.{headSoFar, stateWith, stateOf, Leads};
+ghost use Rattle.heads.specs.Heads.{heads};
+ghost use Rattle.judging.specs.Judging.{outcomeOf};
+ghost use Rattle.arriving.specs.States.{numberAt, headSoFar, stateWith, stateOf, Leads};
 ghost use Rattle.arriving.specs.Steps.Reaching.{Stepped, PastHead};
-ghost use Rattle.arriving.specs.Calls.{Takes, JudgesState, Announces, comingNumber, comingHead, comingBytes};
+ghost use Rattle.arriving.specs.Calls.{Takes, JudgesState, GoodBytesOf, Announces, comingOf};
 
 // The last batch number.
 const LAST_BATCH: usize = 4294967295;
@@ -26,7 +27,7 @@ const LAST_BATCH: usize = 4294967295;
 pub struct Arriving {
     // How many bytes can stand so far. Once one couldn't, this is its index, and nothing is counted on.
     pub at: usize,
-    // 1 once a byte couldn't stand, else 0.
+    // The number of what is wrong with that byte, 8 to 12, else 0.
     pub wrong: usize,
     // The numbers of the head, as far as their bytes are in and can stand; a byte that isn't in counts as 0.
     pub n: usize,
@@ -41,8 +42,10 @@ pub struct Arriving {
 pub enum Coming {
     // Its head, and how many bytes it will have.
     Share(Head, usize),
-    // 7: the head isn't in. 8: the bytes so far are no beginning of a share.
+    // 7: the head isn't in.
     Refused(Refusal),
+    // 8 to 12, and the index of the first byte that can't stand there, as the judge has them.
+    Malformed(Refusal, usize),
 }
 
 // A state from its head.
@@ -60,6 +63,13 @@ fn state_with(at: usize, wrong: usize, head: Head) -> Arriving
         l: g.l,
         batch: head.batch as usize,
     }
+}
+
+// The state once a byte couldn't stand at this index of a share with this head.
+fn wrong_at(head: Head, at: usize) -> Arriving
+    ensures { λ r. ⌜ r ≡ stateWith at (numberAt (heads .total head) at) head ⌝ }
+{
+    state_with(at, reaching::number_at(kind1::total(head), at), head)
 }
 
 impl Arriving {
@@ -144,10 +154,10 @@ impl Arriving {
         let head = self.head_so_far();
         let good = start + search::first_wrong(&bytes[start..], at + start, head, letters);
         let end = at + good;
-        if good == bytes.len() {
-            return state_with(end, 0, head);
+        if good < bytes.len() {
+            return wrong_at(head, end);
         }
-        state_with(end, 1, head)
+        state_with(end, 0, head)
     }
 
     // The same where it isn't, or where a byte was wrong already.
@@ -169,33 +179,42 @@ impl Arriving {
             return state_with(end, 0, with);
         }
         let before = reaching::head_with(head, at, &bytes[..good]);
-        state_with(end, 1, before)
+        wrong_at(before, end)
     }
 
-    // What all bytes so far are: a share and its head, the beginning of one (7), or neither (8). A state to which no bytes lead is judged 8.
+    // What all bytes so far are: a share and its head, the beginning of one (7), or what is wrong with them (8 to 12), and where. A state to which no
+    // bytes lead is judged 8 at 0.
     pub fn judge(self) -> Judgment
-        ensures { λ r. ⌜ JudgesState self (judgmentNumber r) (headOf r) ⌝ }
+        ensures { λ r. ⌜ JudgesState self (outcomeOf r) ⌝ }
     {
         if LAST_BATCH < self.batch {
-            return Judgment::Refused(Refusal::Malformed);
+            return Judgment::Malformed(Refusal::Kind, 0);
         }
         let head = self.head_so_far();
         let letters = kind1::total(head);
         if !reaching::led(head, letters, self.at, self.wrong) {
-            return Judgment::Refused(Refusal::Malformed);
+            return Judgment::Malformed(Refusal::Kind, 0);
         }
+        // Where a byte was wrong, more bytes came than can stand; how many more makes no difference.
         judging::judged(kind1::SIZE, head, letters, self.at, self.at + self.wrong)
+    }
+
+    // How many bytes can stand, of all so far; 0 in a state to which no bytes lead.
+    pub fn good_bytes(self) -> usize
+        ensures { λ r. ⌜ GoodBytesOf self r ⌝ }
+    {
+        if self.reached() {
+            return self.at;
+        }
+        0
     }
 
     // Whose share is coming and how many bytes it will have, as soon as its head is in, complete or not.
     pub fn coming(self) -> Coming
-        ensures { λ r. ⌜ Announces self (comingNumber r) (comingHead r) (comingBytes r) ⌝ }
+        ensures { λ r. ⌜ Announces self (comingOf r) ⌝ }
     {
-        if !self.reached() {
-            return Coming::Refused(Refusal::Malformed);
-        }
-        if 0 < self.wrong {
-            return Coming::Refused(Refusal::Malformed);
+        if let Judgment::Malformed(refusal, at) = self.judge() {
+            return Coming::Malformed(refusal, at);
         }
         if self.at < kind1::SIZE {
             return Coming::Refused(Refusal::Unfinished);

@@ -2,6 +2,7 @@
 use heads::Head;
 use heads::kind1;
 use heads::partly;
+use judging::refusing;
 use judging::search;
 use layout::skipping;
 use records::sizes;
@@ -15,6 +16,7 @@ ghost use Rattle.heads.specs.Kind1.{kind1Size};
 ghost use Rattle.heads.specs.Heads.{heads};
 ghost use Rattle.heads.specs.Steps.Partly.{headAfter};
 ghost use Rattle.judging.specs.Steps.Search.{standsAt};
+ghost use Rattle.arriving.specs.States.{numberAt};
 ghost use Rattle.arriving.specs.Steps.Reaching.{Within, Stepped, HeadAt, CanBeWrong, Led};
 
 // So many bytes can stand in a share of so many letters, with its head in. (Where a head's numbers are out of range, there are none.)
@@ -93,7 +95,15 @@ fn can_be_wrong(head: Head, at: usize) -> bool
     !next_stands(head, at, 255)
 }
 
-// Bytes lead to these numbers: a head where so many can stand, with a byte that couldn't only where some byte can't.
+// The number of what is wrong with a byte that can't stand at this index of a share of so many letters.
+pub fn number_at(letters: usize, at: usize) -> usize
+    requires { ⌜ letters < totalLimit ⌝ }
+    ensures { λ r. ⌜ r ≡ numberAt letters at ⌝ }
+{
+    group::refusal_number(refusing::refusal_at(kind1::SIZE, letters, at))
+}
+
+// Bytes lead to these numbers: a head where so many can stand, with a byte that couldn't only where some byte can't, and by the number of that place.
 pub fn led(head: Head, letters: usize, at: usize, wrong: usize) -> bool
     requires { ⌜ letters ≡ heads .total head ⌝ }
     ensures { λ r. ⌜ (r ≡ true) ↔ Led head at wrong ⌝ }
@@ -104,7 +114,7 @@ pub fn led(head: Head, letters: usize, at: usize, wrong: usize) -> bool
     if wrong == 0 {
         return true;
     }
-    if 1 < wrong {
+    if wrong != number_at(letters, at) {
         return false;
     }
     can_be_wrong(head, at)

@@ -12,7 +12,7 @@ use Rattle.heads.specs.Heads.{heads}
 use Rattle.heads.specs.Steps.Partly.{PartlyIn, headAfter}
 use Rattle.judging.specs.Steps.Search.{standsAt, farthest}
 use Rattle.arriving.specs.declared.Arriving.{Arriving}
-use Rattle.arriving.specs.States.{headSoFar}
+use Rattle.arriving.specs.States.{numberAt, headSoFar}
 
 -- so many bytes can stand in a share of so many letters, of which it has some
 pub record Within (letters at : ℕ) : Type 0 where
@@ -38,7 +38,7 @@ CanBeWrong h at = (byte : ℕ) × (byte < 256) × (standsAt (headAfter h at (byt
 -- bytes lead to these numbers
 pub record Led (h : Head) (at wrong : ℕ) : Type 0 where
   pub numbers : HeadAt h at
-  pub flag : (wrong ≡ 0) ⊎ (wrong ≡ 1)
+  pub number : (wrong ≡ 0) ⊎ (wrong ≡ numberAt (heads .total h) at)
   pub byte : (wrong ≡ 0 → ⊥) → CanBeWrong h at
 
 -- bytes lead to this state, their head is in, and all of them stand

@@ -55,14 +55,14 @@ slice-aggregate-head-with c = sym (length-take-le _ _ (c .before .before .first-
 head-with-requires-2 : tie.Need-head-with-requires-2
 head-with-requires-2 c κs = known-numbers _ _ (c .before .before .before .before .before .head-so-far .ensures) (c .before .before .before .before .before .before .before .before .before .reached .ensures .0 (not-false _ (c .before .before .before .before .before .before .before .before .if1 .left)))
 
-state-with-requires-2 : tie.Need-state-with-requires-2
-state-with-requires-2 c κs = search needs
+wrong-at-requires : tie.Need-wrong-at-requires
+wrong-at-requires c κs = search needs
 
 returns-4 : tie.Need-returns-4
 returns-4 c =
     let s = c .before .before .before .before .before .before .before .before .before .before .before .before .before .args in
     let w = c .before .before .before .before .first-wrong in
-    subst (Takes (s .self) (s .bytes .now)) (sym (c .state-with2 .ensures))
+    subst (Takes (s .self) (s .bytes .now)) (sym (c .wrong-at .ensures))
     (takes-some (s .self) (s .bytes .now) (c .before .before .before .before .before .before .before .before .before .before .before .reached .ensures .0 (not-false _ (c .before .before .before .before .before .before .before .before .before .before .if1 .left))) (omega arith) _ _
     (c .before .before .before .before .before .before .head-with .ensures ∙ ap (λ h. headAfter h (s .self .at) (s .bytes .now)) (c .before .before .before .before .before .before .before .head-so-far .ensures))
     (w .ensures) (omega (arith, w .ensures .within, c .before .before .before .if3 .left)) _
@@ -84,5 +84,5 @@ in-head-spec =
     returns-3
     slice-aggregate-head-with
     head-with-requires-2
-    state-with-requires-2
+    wrong-at-requires
     returns-4)

@@ -9,7 +9,7 @@ use Rattle.heads.specs.Heads.{heads}
 use Rattle.heads.proofs.Kind1Laws.{total-small}
 use Rattle.judging.specs.Steps.Search.{judgmentAt}
 use Rattle.arriving.specs.Calls.{JudgesState}
-use Rattle.arriving.proofs.Led.{batch-led, known-led, led-known, flag-small}
+use Rattle.arriving.proofs.Led.{batch-led, known-led, led-known, number-small}
 use Rattle.arriving.proofs.Near.{near}
 use Rattle.arriving.proofs.Telling.{judged-right}
 use borrow.Author.Needs.{needs}
@@ -34,7 +34,7 @@ returns-2 c = JudgesState.forged (λ led. not-both _ (c .before .led .ensures .1
 add-judged : tie.Need-add-judged
 add-judged c =
     let w = (c .before .before .led .ensures .0 (not-false _ (c .before .if2 .left))) in
-    omega (arith, near _ _ (w .numbers), flag-small (c .before .before .before .before .before .before .before .args .self) (led-known _ _ (c .before .before .before .before .head-so-far .ensures) w))
+    omega (arith, near _ _ (w .numbers), number-small (c .before .before .before .before .before .before .before .args .self) (led-known _ _ (c .before .before .before .before .head-so-far .ensures) w))
 
 judged-requires : tie.Need-judged-requires
 judged-requires c κs = (omega arith, omega (arith, c .before .before .before .total .ensures, total-small (c .before .before .before .before .head-so-far .result)))

@@ -1,5 +1,6 @@
 -- `searched` meets its contract: the search goes on behind what is stepped over, and the head stays as it is.
 use mathlib.Core.Path.{sym, ap, _∙_}
+use native.Mathlib.Omega.{arith}
 use Rattle.heads.specs.Heads.{heads}
 use Rattle.arriving.proofs.PastHead.{searched-all, searched-some}
 use borrow.Author.Needs.{needs}
@@ -30,23 +31,23 @@ add-good c = search needs
 add-end : tie.Need-add-end
 add-end c = search needs
 
-state-with-requires : tie.Need-state-with-requires
-state-with-requires c κs = search needs
+wrong-at-requires : tie.Need-wrong-at-requires
+wrong-at-requires c κs = search needs
 
 returns : tie.Need-returns
 returns c =
     let s = c .before .before .before .before .before .before in
-    searched-all (s .args .self) (s .args .letters) (s .pre .0) (s .args .bytes .now) (s .args .start) _ (s .pre .1) _ (c .before .before .before .before .head-so-far .ensures) (c .before .before .first-wrong .ensures)
-    (c .before .if1 .taken) _ (c .state-with .ensures)
+    searched-some (s .args .self) (s .args .letters) (s .pre .0) (s .args .bytes .now) (s .args .start) _ (s .pre .1) _ (c .before .before .before .before .head-so-far .ensures) (c .before .before .first-wrong .ensures)
+    (λ all. omega (arith, c .before .if1 .taken)) _ (c .wrong-at .ensures)
 
-state-with-requires-2 : tie.Need-state-with-requires-2
-state-with-requires-2 c κs = search needs
+state-with-requires : tie.Need-state-with-requires
+state-with-requires c κs = search needs
 
 returns-2 : tie.Need-returns-2
 returns-2 c =
     let s = c .before .before .before .before .before .before in
-    searched-some (s .args .self) (s .args .letters) (s .pre .0) (s .args .bytes .now) (s .args .start) _ (s .pre .1) _ (c .before .before .before .before .head-so-far .ensures) (c .before .before .first-wrong .ensures)
-    (c .before .if1 .left) _ (c .state-with2 .ensures)
+    searched-all (s .args .self) (s .args .letters) (s .pre .0) (s .args .bytes .now) (s .args .start) _ (s .pre .1) _ (c .before .before .before .before .head-so-far .ensures) (c .before .before .first-wrong .ensures)
+    (omega (arith, c .before .if1 .left, c .before .before .first-wrong .ensures .within)) _ (c .state-with .ensures)
 
 pub searched-spec : {M : Type 1} → statement M
 searched-spec =
@@ -60,7 +61,7 @@ searched-spec =
     first-wrong-requires
     add-good
     add-end
-    state-with-requires
+    wrong-at-requires
     returns
-    state-with-requires-2
+    state-with-requires
     returns-2)
