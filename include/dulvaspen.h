@@ -22,11 +22,17 @@
  *   5  a lent input, or the buffer worked on in place, not of the exact length
  *   6  a lent output not of the exact length
  *   7  share bytes that are the beginning of some share but not all of it (no bytes included)
- *   8  share bytes that are neither a share nor the beginning of one
+ *   8 to 12: share bytes that are neither a share nor the beginning of one. The first byte that can't stand, after those before it, would be
+ *   8  the kind of a record
+ *   9  a number of the head
+ *  10  one of the zeros that fill up the last block
+ *  11  a byte of the total, T
+ *  12  after the end
  *
- * (Reading and judging a share decide 7 and 8 before 6.) A refused call changes nothing that it was lent: no letter of a buffer, and no
- * number behind a pointer. Lengths are in letters, which are bytes. A pointer may be anything where its length is 0; pointers to numbers
- * must be valid. Nothing is allocated or kept, and calls on different buffers may run at the same time.
+ * (Reading and judging a share decide 7 to 12 before 6. dulvaspen_good_bytes tells the index of that first byte.) A refused call changes
+ * nothing that it was lent: no letter of a buffer, and no number behind a pointer. Lengths are in letters, which are bytes. A pointer may be
+ * anything where its length is 0; pointers to numbers must be valid. Nothing is allocated or kept, and calls on different buffers may run at
+ * the same time.
  *
  * A share is a node's packets as stored bytes. Numbers are least byte first:
  *
@@ -63,9 +69,13 @@
 
 /* The version of this header and of the library that it was installed with. MAJOR rises where a call or a number changes its meaning, MINOR
  * where something is added. */
-#define DULVASPEN_VERSION_MAJOR 1
-#define DULVASPEN_VERSION_MINOR 1
-#define DULVASPEN_VERSION "1.1"
+#define DULVASPEN_VERSION_MAJOR 2
+#define DULVASPEN_VERSION_MINOR 0
+#define DULVASPEN_VERSION "2.0"
+
+/* Share bytes were found to be neither a share nor the beginning of one, whatever is wrong with them: any of the numbers 8 to 12. (In version 1
+ * that was 8 alone.) */
+#define DULVASPEN_MALFORMED(number) ((number) >= 8 && (number) <= 12)
 
 /* The most that any allowed numbers give, for callers with fixed buffers. A call is still lent the exact length, so the first so many letters
  * of such a buffer. The file is that of k = d = 15; packets, piece for a repair and share are those of node 16 with d = 15; all with L = 4,096. */
@@ -146,13 +156,18 @@ uint64_t dulvaspen_write_share(uint64_t n, uint64_t k, uint64_t d, uint64_t l, u
                                uint64_t packets_len, uint8_t *share, uint64_t share_len);
 
 /* Reads any bytes. Of a share: head[0..5] = n, k, d, node, L, batch, and packets holds its letters. packets_len must be T and head_len 6
- * (else 6). Refusals: 7, 8, then 6. To learn T first, judge the share. */
+ * (else 6). Refusals: 7 to 12, then 6. To learn T first, judge the share. */
 uint64_t dulvaspen_read_share(const uint8_t *share, uint64_t share_len, uint8_t *packets, uint64_t packets_len, uint64_t *head,
                               uint64_t head_len);
 
-/* Judges any bytes without copying letters: 0 and the head for a share, 7 for the beginning of one, 8 for neither. head_len must be 6
- * (else 6). A share that was cut short, even by one byte, is never 0. Refusals: 7, 8, then 6. */
+/* Judges any bytes without copying letters: 0 and the head for a share, 7 for the beginning of one, and for neither what is wrong, 8 to 12.
+ * head_len must be 6 (else 6). A share that was cut short, even by one byte, is never 0. Refusals: 7 to 12, then 6. */
 uint64_t dulvaspen_judge_share(const uint8_t *share, uint64_t share_len, uint64_t *head, uint64_t head_len);
+
+/* *bytes = how many bytes from the front can stand: all of them for a share or the beginning of one, and else the index, from 0, of the first that
+ * can't. A copy can be gone on with from there. It refuses nothing and returns 0.
+ * Example: a share whose L is 0 is refused by 9, and *bytes is 6: L may still become 256 while its second byte isn't there. */
+uint64_t dulvaspen_good_bytes(const uint8_t *share, uint64_t share_len, uint64_t *bytes);
 
 /* ---- a share that arrives: judged while its bytes come, in bursts of any size, keeping none of them ----
  *
@@ -160,17 +175,17 @@ uint64_t dulvaspen_judge_share(const uint8_t *share, uint64_t share_len, uint64_
  *   dulvaspen_arriving_start(state, DULVASPEN_ARRIVING_WORDS);
  *   while ((got = read(in, burst, sizeof burst)) > 0) {
  *       dulvaspen_arriving_take(state, DULVASPEN_ARRIVING_WORDS, burst, got);
- *       if (dulvaspen_arriving_judge(state, DULVASPEN_ARRIVING_WORDS, head, 6) == 8) break;      // hopeless: stop the copy now
+ *       if (DULVASPEN_MALFORMED(dulvaspen_arriving_judge(state, DULVASPEN_ARRIVING_WORDS, head, 6))) break;   // hopeless: stop the copy now
  *   }
- *   if (dulvaspen_arriving_judge(state, DULVASPEN_ARRIVING_WORDS, head, 6) == 0) ...             // the whole share, and its head
+ *   if (dulvaspen_arriving_judge(state, DULVASPEN_ARRIVING_WORDS, head, 6) == 0) ...                          // the whole share, and its head
  *
  * The state is an array of DULVASPEN_ARRIVING_WORDS numbers that the caller owns. It is a function of all bytes so far: how they were cut
  * makes no difference, not even in the state's numbers. So it may be kept, copied, stored and gone on with elsewhere (an array of 64-bit
  * numbers, in this machine's order of bytes). What its numbers mean may change with the next MAJOR version.
  *
- * Any numbers may stand in it. Numbers to which no bytes lead are judged 8, and taking bytes leaves them as they are, so a state that was
- * damaged or never started doesn't come alive. Each call refuses a state of another length by 5, before anything else, and then leaves
- * everything as it was. */
+ * Any numbers may stand in it. Numbers to which no bytes lead are judged 8, no byte of them can stand, and taking bytes leaves them as they
+ * are, so a state that was damaged or never started doesn't come alive. Each call refuses a state of another length by 5, before anything
+ * else, and then leaves everything as it was. */
 
 /* The state of no bytes. Refusal: 5. */
 uint64_t dulvaspen_arriving_start(uint64_t *state, uint64_t state_len);
@@ -179,13 +194,17 @@ uint64_t dulvaspen_arriving_start(uint64_t *state, uint64_t state_len);
  * on. Refusal: 5. */
 uint64_t dulvaspen_arriving_take(uint64_t *state, uint64_t state_len, const uint8_t *bytes, uint64_t bytes_len);
 
-/* What dulvaspen_judge_share returns for all bytes so far, and the head: 0 for a whole share, 7 for the beginning of one, 8 for neither. head_len
- * must be 6 (else 6). Refusals: 5, then 7, 8, then 6. */
+/* What dulvaspen_judge_share returns for all bytes so far, and the head: 0 for a whole share, 7 for the beginning of one, 8 to 12 for neither.
+ * head_len must be 6 (else 6). Refusals: 5, then 7 to 12, then 6. */
 uint64_t dulvaspen_arriving_judge(const uint64_t *state, uint64_t state_len, uint64_t *head, uint64_t head_len);
 
+/* *bytes = what dulvaspen_good_bytes gives for all bytes so far: how many of them can stand, and so the index of the first that can't, if there is
+ * one. 0 for numbers to which no bytes lead. Refusal: 5. */
+uint64_t dulvaspen_arriving_good_bytes(const uint64_t *state, uint64_t state_len, uint64_t *bytes);
+
 /* Whose share is coming: as soon as the head is in and while nothing is wrong, 0, head[0..5], and *bytes = the bytes that the whole share
- * will have, complete or not. 7 while the head isn't in (its first 11 bytes), 8 as above. head_len must be 6 (else 6).
- * Refusals: 5, then 7, 8, then 6. */
+ * will have, complete or not. 7 while the head isn't in (its first 11 bytes), 8 to 12 as above. head_len must be 6 (else 6).
+ * Refusals: 5, then 7 to 12, then 6. */
 uint64_t dulvaspen_arriving_head(const uint64_t *state, uint64_t state_len, uint64_t *head, uint64_t head_len, uint64_t *bytes);
 
 #ifdef __cplusplus

@@ -1,13 +1,15 @@
 -- What each exported call's contract says allows one number returned and one content of each lent number and buffer.
-use mathlib.Core.Path.{_≡_, refl, sym, ap, _∙_}
+use mathlib.Core.Path.{_≡_, refl, sym, ap, subst, _∙_}
 use mathlib.Core.List.{List}
 use Prim.Native.Nat.{ℕ, zero, suc, _<_}
 use native.Mathlib.Omega.{arith}
 use lib.ListN.{length, getD}
 use lib.Seq.{ext-getD}
-use Rattle.arriving.proofs.Outcomes.{taken-once, same-number, same-coming}
-use Rattle.c_shares.specs.Shares.{six}
-use Rattle.c_arriving.specs.Arrivals.{stateIn, eight, StartsWords, TakesWords, JudgesWords, AnnouncesWords}
+use Rattle.group.specs.Answers.{Outcome}
+use Rattle.heads.specs.declared.Head.{Head}
+use Rattle.arriving.proofs.Outcomes.{taken-once, same-judgment, good-once, same-coming}
+use Rattle.c_shares.proofs.Outcomes.{told-once}
+use Rattle.c_arriving.specs.Arrivals.{stateIn, eight, StartsWords, TakesWords, JudgesWords, CountsWords, TellsComing, AnnouncesWords}
 
 pub starts-once : {words after after′ : List ℕ} {r r′ : ℕ} → StartsWords words r after → StartsWords words r′ after′ → (r ≡ r′) × (after ≡ after′)
 starts-once (StartsWords.started l) (StartsWords.started l′) = (refl, refl)
@@ -24,43 +26,36 @@ takes-once (TakesWords.unfit n) (TakesWords.unfit n′) = (refl, refl)
 
 pub judges-once :
     {words head after after′ : List ℕ} {r r′ : ℕ} → JudgesWords words head r after → JudgesWords words head r′ after′ → (r ≡ r′) × (after ≡ after′)
-judges-once {words} (JudgesWords.complete l h j e) (JudgesWords.complete l′ h′ j′ e′) = (refl, ap six (same-number (stateIn words) j j′ .1))
-judges-once {words} (JudgesWords.complete l h j e) (JudgesWords.refused l′ n z j′) = absurd (z (same-number (stateIn words) j′ j .0))
-judges-once (JudgesWords.complete l h j e) (JudgesWords.misfit l′ h′ j′ ne) = absurd (ne e)
-judges-once (JudgesWords.complete l h j e) (JudgesWords.unfit n) = absurd (n l)
-judges-once {words} (JudgesWords.refused l n z j) (JudgesWords.complete l′ h j′ e) = absurd (z (same-number (stateIn words) j j′ .0))
-judges-once {words} (JudgesWords.refused l n z j) (JudgesWords.refused l′ n′ z′ j′) = (same-number (stateIn words) j j′ .0, refl)
-judges-once {words} (JudgesWords.refused l n z j) (JudgesWords.misfit l′ h j′ ne) = absurd (z (same-number (stateIn words) j j′ .0))
-judges-once (JudgesWords.refused l n z j) (JudgesWords.unfit u) = absurd (u l)
-judges-once (JudgesWords.misfit l h j ne) (JudgesWords.complete l′ h′ j′ e) = absurd (ne e)
-judges-once {words} (JudgesWords.misfit l h j ne) (JudgesWords.refused l′ n z j′) = absurd (z (same-number (stateIn words) j′ j .0))
-judges-once (JudgesWords.misfit l h j ne) (JudgesWords.misfit l′ h′ j′ ne′) = (refl, refl)
-judges-once (JudgesWords.misfit l h j ne) (JudgesWords.unfit n) = absurd (n l)
-judges-once (JudgesWords.unfit n) (JudgesWords.complete l h j e) = absurd (n l)
-judges-once (JudgesWords.unfit u) (JudgesWords.refused l n z j) = absurd (u l)
-judges-once (JudgesWords.unfit n) (JudgesWords.misfit l h j ne) = absurd (n l)
-judges-once (JudgesWords.unfit n) (JudgesWords.unfit n′) = (refl, refl)
+judges-once {words} (JudgesWords.judged l j s n a t) (JudgesWords.judged l′ j′ s′ n′ a′ t′) = told-once (same-judgment (stateIn words) s s′) t t′
+judges-once (JudgesWords.judged l j s n a t) (JudgesWords.unfit u) = absurd (u l)
+judges-once (JudgesWords.unfit u) (JudgesWords.judged l j s n a t) = absurd (u l)
+judges-once (JudgesWords.unfit u) (JudgesWords.unfit u′) = (refl, refl)
+
+pub counts-once : {words : List ℕ} {bytes r r′ count count′ : ℕ} → CountsWords words bytes r count → CountsWords words bytes r′ count′ → (r ≡ r′) × (count ≡ count′)
+counts-once {words} (CountsWords.counted l c g) (CountsWords.counted l′ c′ g′) = (refl, good-once (stateIn words) g g′)
+counts-once (CountsWords.counted l c g) (CountsWords.unfit u) = absurd (u l)
+counts-once (CountsWords.unfit u) (CountsWords.counted l c g) = absurd (u l)
+counts-once (CountsWords.unfit u) (CountsWords.unfit u′) = (refl, refl)
+
+-- the share that is coming is told in one way
+coming-told :
+    {head after after′ : List ℕ} {bytes count count′ : ℕ} {j : Outcome (Head × ℕ)} {r r′ : ℕ} → TellsComing head bytes j r after count
+    → TellsComing head bytes j r′ after′ count′ → (r ≡ r′) × (after ≡ after′) × (count ≡ count′)
+coming-told (TellsComing.known h c e) (TellsComing.known _ _ _) = (refl, refl, refl)
+coming-told (TellsComing.known h c e) (TellsComing.misfit _ _ n) = absurd (n e)
+coming-told (TellsComing.misfit h c n) (TellsComing.known _ _ e) = absurd (n e)
+coming-told (TellsComing.misfit h c n) (TellsComing.misfit _ _ _) = (refl, refl, refl)
+coming-told (TellsComing.refused n) (TellsComing.refused _) = (refl, refl, refl)
+coming-told (TellsComing.malformed n q) (TellsComing.malformed _ _) = (refl, refl, refl)
 
 pub announces-once :
     {words head after after′ : List ℕ} {bytes count count′ r r′ : ℕ} → AnnouncesWords words head bytes r after count
     → AnnouncesWords words head bytes r′ after′ count′ → (r ≡ r′) × (after ≡ after′) × (count ≡ count′)
-announces-once {words} (AnnouncesWords.known l h c a e) (AnnouncesWords.known l′ h′ c′ a′ e′) =
-    let w = same-coming (stateIn words) a a′ in (refl, ap six (w .1), w .2)
-announces-once {words} (AnnouncesWords.known l h c a e) (AnnouncesWords.refused l′ n z a′) = absurd (z (same-coming (stateIn words) a′ a .0))
-announces-once (AnnouncesWords.known l h c a e) (AnnouncesWords.misfit l′ h′ c′ a′ ne) = absurd (ne e)
-announces-once (AnnouncesWords.known l h c a e) (AnnouncesWords.unfit n) = absurd (n l)
-announces-once {words} (AnnouncesWords.refused l n z a) (AnnouncesWords.known l′ h c a′ e) = absurd (z (same-coming (stateIn words) a a′ .0))
-announces-once {words} (AnnouncesWords.refused l n z a) (AnnouncesWords.refused l′ n′ z′ a′) = (same-coming (stateIn words) a a′ .0, refl, refl)
-announces-once {words} (AnnouncesWords.refused l n z a) (AnnouncesWords.misfit l′ h c a′ ne) = absurd (z (same-coming (stateIn words) a a′ .0))
-announces-once (AnnouncesWords.refused l n z a) (AnnouncesWords.unfit u) = absurd (u l)
-announces-once (AnnouncesWords.misfit l h c a ne) (AnnouncesWords.known l′ h′ c′ a′ e) = absurd (ne e)
-announces-once {words} (AnnouncesWords.misfit l h c a ne) (AnnouncesWords.refused l′ n z a′) = absurd (z (same-coming (stateIn words) a′ a .0))
-announces-once (AnnouncesWords.misfit l h c a ne) (AnnouncesWords.misfit l′ h′ c′ a′ ne′) = (refl, refl, refl)
-announces-once (AnnouncesWords.misfit l h c a ne) (AnnouncesWords.unfit n) = absurd (n l)
-announces-once (AnnouncesWords.unfit n) (AnnouncesWords.known l h c a e) = absurd (n l)
-announces-once (AnnouncesWords.unfit u) (AnnouncesWords.refused l n z a) = absurd (u l)
-announces-once (AnnouncesWords.unfit n) (AnnouncesWords.misfit l h c a ne) = absurd (n l)
-announces-once (AnnouncesWords.unfit n) (AnnouncesWords.unfit n′) = (refl, refl, refl)
+announces-once {words} {head} {after} {bytes = bytes} {count = count} {r = r} (AnnouncesWords.announced l j a n _ c t) (AnnouncesWords.announced l′ j′ a′ n′ _ c′ t′) =
+    coming-told (subst (λ j. TellsComing head bytes j r after count) (same-coming (stateIn words) a a′) t) t′
+announces-once (AnnouncesWords.announced l j a n _ c t) (AnnouncesWords.unfit u) = absurd (u l)
+announces-once (AnnouncesWords.unfit u) (AnnouncesWords.announced l j a n _ c t) = absurd (u l)
+announces-once (AnnouncesWords.unfit u) (AnnouncesWords.unfit u′) = (refl, refl, refl)
 
 -- Two arrays are one state only if all their numbers are the same: the state's numbers are the array's.
 pub words-back : (words : List ℕ) → length words ≡ 8 → eight (stateIn words) ≡ words

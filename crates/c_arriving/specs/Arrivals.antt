@@ -3,12 +3,13 @@ use mathlib.Core.Path.{_≡_}
 use mathlib.Core.List.{List, [], _∷_}
 use Prim.Native.Nat.{ℕ}
 use lib.ListN.{length, getD}
+use Rattle.group.specs.declared.Refusal.the-variants.{Output}
+use Rattle.group.specs.Answers.{refusalNumber, Outcome}
 use Rattle.heads.specs.declared.Head.{Head}
-use Rattle.judging.specs.Judging.{noHead}
 use Rattle.arriving.specs.declared.Arriving.{Arriving}
 use Rattle.arriving.specs.States.{stateOf}
-use Rattle.arriving.specs.Calls.{Takes, JudgesState, Announces}
-use Rattle.c_shares.specs.Shares.{six}
+use Rattle.arriving.specs.Calls.{Takes, JudgesState, GoodBytesOf, Announces}
+use Rattle.c_shares.specs.Shares.{six, TellsJudgment}
 
 -- the state that eight numbers are, and its numbers: so two arrays are one state only if all their numbers are the same
 abbrev pub stateIn : List ℕ → Arriving
@@ -37,20 +38,28 @@ pub data TakesWords (words bytes : List ℕ) : ℕ → List ℕ → Type 0 where
   taken : length words ≡ 8 → (after : Arriving) → Takes (stateIn words) bytes after → TakesWords words bytes 0 (eight after)
   unfit : (length words ≡ 8 → ⊥) → TakesWords words bytes 5 words
 
--- judging: 0 and the head's numbers for a share; 7 and 8 before 6, and a refusal leaves the lent numbers as they were
+-- judging: the judgment of the state is told as any judgment is
 pub data JudgesWords (words head : List ℕ) : ℕ → List ℕ → Type 0 where
-  complete : length words ≡ 8 → (h : Head) → JudgesState (stateIn words) 0 h → length head ≡ 6 → JudgesWords words head 0 (six h)
-  refused : length words ≡ 8 → (n : ℕ) → (n ≡ 0 → ⊥) → JudgesState (stateIn words) n noHead → JudgesWords words head n head
-  misfit : length words ≡ 8 → (h : Head) → JudgesState (stateIn words) 0 h → (length head ≡ 6 → ⊥) → JudgesWords words head 6 head
+  judged :
+      length words ≡ 8 → (j : Outcome Head) → JudgesState (stateIn words) j → (n : ℕ) (after : List ℕ) → TellsJudgment head j n after
+      → JudgesWords words head n after
   unfit : (length words ≡ 8 → ⊥) → JudgesWords words head 5 head
 
--- the share that is coming: its head and its bytes, and a refusal leaves both as they were
+-- counting the bytes that can stand
+pub data CountsWords (words : List ℕ) (bytes : ℕ) : ℕ → ℕ → Type 0 where
+  counted : length words ≡ 8 → (count : ℕ) → GoodBytesOf (stateIn words) count → CountsWords words bytes 0 count
+  unfit : (length words ≡ 8 → ⊥) → CountsWords words bytes 5 bytes
+
+-- The share that is coming, told to C: 0, its head's numbers and its bytes; 6 comes last, and a refusal leaves all as it was.
+pub data TellsComing (head : List ℕ) (bytes : ℕ) : Outcome (Head × ℕ) → ℕ → List ℕ → ℕ → Type 0 where
+  known : (h : Head) (count : ℕ) → length head ≡ 6 → TellsComing head bytes (Outcome.fine (h, count)) 0 (six h) count
+  misfit : (h : Head) (count : ℕ) → (length head ≡ 6 → ⊥) → TellsComing head bytes (Outcome.fine (h, count)) (refusalNumber Output) head bytes
+  refused : (n : ℕ) → TellsComing head bytes (Outcome.refused n) n head bytes
+  malformed : (n q : ℕ) → TellsComing head bytes (Outcome.wrong n q) n head bytes
+
+-- the share that is coming
 pub data AnnouncesWords (words head : List ℕ) (bytes : ℕ) : ℕ → List ℕ → ℕ → Type 0 where
-  known :
-      length words ≡ 8 → (h : Head) (count : ℕ) → Announces (stateIn words) 0 h count → length head ≡ 6
-      → AnnouncesWords words head bytes 0 (six h) count
-  refused : length words ≡ 8 → (n : ℕ) → (n ≡ 0 → ⊥) → Announces (stateIn words) n noHead 0 → AnnouncesWords words head bytes n head bytes
-  misfit :
-      length words ≡ 8 → (h : Head) (count : ℕ) → Announces (stateIn words) 0 h count → (length head ≡ 6 → ⊥)
-      → AnnouncesWords words head bytes 6 head bytes
+  announced :
+      length words ≡ 8 → (j : Outcome (Head × ℕ)) → Announces (stateIn words) j → (n : ℕ) (after : List ℕ) (count : ℕ) → TellsComing head bytes j n after count
+      → AnnouncesWords words head bytes n after count
   unfit : (length words ≡ 8 → ⊥) → AnnouncesWords words head bytes 5 head bytes

@@ -1,10 +1,10 @@
 // A share that arrives, for C: the state is an array of eight numbers that the caller owns, and any numbers may stand in it.
 use arriving::Arriving;
 use arriving::Coming;
-use judging::Judgment;
 ghost use mathlib.Core.Path.{_≡_};
 ghost use lib.ListN.{length};
-ghost use Rattle.c_arriving.specs.Arrivals.{stateIn, eight, StartsWords, TakesWords, JudgesWords, AnnouncesWords};
+ghost use Rattle.arriving.specs.Calls.{comingOf};
+ghost use Rattle.c_arriving.specs.Arrivals.{stateIn, eight, StartsWords, TakesWords, JudgesWords, CountsWords, TellsComing, AnnouncesWords};
 
 // The numbers of a state.
 const WORDS: usize = 8;
@@ -67,7 +67,7 @@ pub extern "C" fn dulvaspen_arriving_take(state: &mut [usize], bytes: &[u8]) -> 
     0
 }
 
-// What all bytes so far are. Refusals: 5, then 7 and 8, and then 6 for a head that has not six numbers.
+// What all bytes so far are. Refusals: 5, then 7 to 12, and then 6 for a head that has not six numbers.
 #[no_mangle]
 pub extern "C" fn dulvaspen_arriving_judge(state: &[usize], head: &mut [usize]) -> usize
     ensures { λ r. ⌜ JudgesWords (now (state .entry)) (now (head .entry)) r (now (head .exit)) ⌝ }
@@ -76,20 +76,43 @@ pub extern "C" fn dulvaspen_arriving_judge(state: &[usize], head: &mut [usize]) 
         return 5;
     }
     let so_far = state_in(state);
-    match so_far.judge() {
-        Judgment::Complete(found) => {
+    c_shares::put_judgment(so_far.judge(), head)
+}
+
+// How many bytes can stand, of all so far: all of them, or the index of the first that can't. In a state to which no bytes lead it is 0.
+// Refusal: 5.
+#[no_mangle]
+pub extern "C" fn dulvaspen_arriving_good_bytes(state: &[usize], bytes: &mut usize) -> usize
+    ensures { λ r. ⌜ CountsWords (now (state .entry)) (now (bytes .entry)) r (now (bytes .exit)) ⌝ }
+{
+    if state.len() != WORDS {
+        return 5;
+    }
+    let so_far = state_in(state);
+    *bytes = so_far.good_bytes();
+    0
+}
+
+// Tells the share that is coming: its number, and its head and its bytes where there is room for six numbers, else 6.
+fn put_coming(coming: Coming, head: &mut [usize], bytes: &mut usize) -> usize
+    ensures { λ r. ⌜ TellsComing (now (head .entry)) (now (bytes .entry)) (comingOf coming) r (now (head .exit)) (now (bytes .exit)) ⌝ }
+{
+    match coming {
+        Coming::Share(found, count) => {
             if head.len() != 6 {
                 return 6;
             }
             c_shares::put_head(found, head);
+            *bytes = count;
             0
         }
-        Judgment::Refused(refusal) => group::refusal_number(refusal),
+        Coming::Refused(refusal) => group::refusal_number(refusal),
+        Coming::Malformed(refusal, _) => group::refusal_number(refusal),
     }
 }
 
-// Whose share is coming and how many bytes it will have, as soon as its head is in. Refusals: 5, then 7 while the head isn't in and 8 as
-// the judge, and then 6 for a head that has not six numbers.
+// Whose share is coming and how many bytes it will have, as soon as its head is in. Refusals: 5, then 7 while the head isn't in and 8 to 12
+// as the judge, and then 6 for a head that has not six numbers.
 #[no_mangle]
 pub extern "C" fn dulvaspen_arriving_head(
     state: &[usize],
@@ -102,15 +125,5 @@ pub extern "C" fn dulvaspen_arriving_head(
         return 5;
     }
     let so_far = state_in(state);
-    match so_far.coming() {
-        Coming::Share(found, count) => {
-            if head.len() != 6 {
-                return 6;
-            }
-            c_shares::put_head(found, head);
-            *bytes = count;
-            0
-        }
-        Coming::Refused(refusal) => group::refusal_number(refusal),
-    }
+    put_coming(so_far.coming(), head, bytes)
 }

@@ -1,52 +1,59 @@
 -- What each exported call's contract says allows one number returned and one content of each lent number and buffer.
-use mathlib.Core.Path.{_≡_, refl, ap, _∙_}
+use mathlib.Core.Path.{_≡_, refl, sym, subst, _∙_}
 use mathlib.Core.List.{List}
+use mathlib.Core.Logic.{⊎-elim}
 use Prim.Native.Nat.{ℕ}
 use lib.ListN.{length}
-use Rattle.layout.proofs.Judgments.{not-share-and-beginning, one-head, one-letters}
-use Rattle.heads.specs.Heads.{heads}
-use Rattle.heads.proofs.Kind1Laws.{lawful}
-use Rattle.c_shares.specs.Shares.{six, JudgesShare, ReadsShare}
+use Rattle.letters.specs.Lanes.{Bytes}
+use Rattle.letters.proofs.Cases.{eq-or-ne}
+use Rattle.group.specs.Answers.{Outcome}
+use Rattle.heads.specs.declared.Head.{Head}
+use Rattle.judging.proofs.Verdicts.{one-good}
+use Rattle.judging.proofs.Outcomes.{same-judging}
+use Rattle.share.proofs.Outcomes.{same-reading}
+use Rattle.c_shares.specs.Shares.{TellsJudgment, JudgesShare, ReadsShare, TellsGoodBytes}
+use Rattle.c_shares.proofs.Judged.{read-told, judged-told}
 
--- any bytes are a share, a beginning of one or neither, and a share's bytes tell its head and its letters
-module _ {bytes head : List ℕ} where
-  pub judges-share-once :
-      {r r′ : ℕ} {after after′ : List ℕ} → JudgesShare bytes head r after → JudgesShare bytes head r′ after′ → (r ≡ r′) × (after ≡ after′)
-  judges-share-once (JudgesShare.complete h l s e) (JudgesShare.complete h′ l′ s′ e′) = (refl, ap six (one-head heads lawful h h′ l l′ bytes s s′))
-  judges-share-once (JudgesShare.complete h l s e) (JudgesShare.unfinished b) = absurd (not-share-and-beginning heads lawful bytes (h, l, s) b)
-  judges-share-once (JudgesShare.complete h l s e) (JudgesShare.malformed m) = absurd (m .0 (h, l, s))
-  judges-share-once (JudgesShare.complete h l s e) (JudgesShare.misfit h′ l′ s′ n) = absurd (n e)
-  judges-share-once (JudgesShare.unfinished b) (JudgesShare.complete h l s e) = absurd (not-share-and-beginning heads lawful bytes (h, l, s) b)
-  judges-share-once (JudgesShare.unfinished b) (JudgesShare.unfinished b′) = (refl, refl)
-  judges-share-once (JudgesShare.unfinished b) (JudgesShare.malformed m) = absurd (m .1 b)
-  judges-share-once (JudgesShare.unfinished b) (JudgesShare.misfit h l s n) = absurd (not-share-and-beginning heads lawful bytes (h, l, s) b)
-  judges-share-once (JudgesShare.malformed m) (JudgesShare.complete h l s e) = absurd (m .0 (h, l, s))
-  judges-share-once (JudgesShare.malformed m) (JudgesShare.unfinished b) = absurd (m .1 b)
-  judges-share-once (JudgesShare.malformed m) (JudgesShare.malformed m′) = (refl, refl)
-  judges-share-once (JudgesShare.malformed m) (JudgesShare.misfit h l s n) = absurd (m .0 (h, l, s))
-  judges-share-once (JudgesShare.misfit h l s n) (JudgesShare.complete h′ l′ s′ e) = absurd (n e)
-  judges-share-once (JudgesShare.misfit h l s n) (JudgesShare.unfinished b) = absurd (not-share-and-beginning heads lawful bytes (h, l, s) b)
-  judges-share-once (JudgesShare.misfit h l s n) (JudgesShare.malformed m) = absurd (m .0 (h, l, s))
-  judges-share-once (JudgesShare.misfit h l s n) (JudgesShare.misfit h′ l′ s′ n′) = (refl, refl)
+-- a judgment is told in one way
+pub told-once :
+    {head after after′ : List ℕ} {j j′ : Outcome Head} {r r′ : ℕ} → j ≡ j′ → TellsJudgment head j r after → TellsJudgment head j′ r′ after′
+    → (r ≡ r′) × (after ≡ after′)
+told-once {head} {after} {r = r} e t t′ = go (subst (λ j. TellsJudgment head j r after) e t) t′
+  where
+    go : {after after′ : List ℕ} {j : Outcome Head} {r r′ : ℕ} → TellsJudgment head j r after → TellsJudgment head j r′ after′ → (r ≡ r′) × (after ≡ after′)
+    go (TellsJudgment.complete h e) (TellsJudgment.complete _ _) = (refl, refl)
+    go (TellsJudgment.complete h e) (TellsJudgment.misfit _ n) = absurd (n e)
+    go (TellsJudgment.misfit h n) (TellsJudgment.complete _ e) = absurd (n e)
+    go (TellsJudgment.misfit h n) (TellsJudgment.misfit _ _) = (refl, refl)
+    go (TellsJudgment.refused n) (TellsJudgment.refused _) = (refl, refl)
+    go (TellsJudgment.malformed n q) (TellsJudgment.malformed _ _) = (refl, refl)
 
-module _ {bytes packets head : List ℕ} where
-  pub reads-share-once :
-      {r r′ : ℕ} {held held′ after after′ : List ℕ} → ReadsShare bytes packets head r held after → ReadsShare bytes packets head r′ held′ after′
-      → (r ≡ r′) × (held ≡ held′) × (after ≡ after′)
-  reads-share-once (ReadsShare.complete h l s e f) (ReadsShare.complete h′ l′ s′ e′ f′) =
-      (refl, one-letters heads lawful h h′ l l′ bytes s s′, ap six (one-head heads lawful h h′ l l′ bytes s s′))
-  reads-share-once (ReadsShare.complete h l s e f) (ReadsShare.unfinished b) = absurd (not-share-and-beginning heads lawful bytes (h, l, s) b)
-  reads-share-once (ReadsShare.complete h l s e f) (ReadsShare.malformed m) = absurd (m .0 (h, l, s))
-  reads-share-once (ReadsShare.complete h l s e f) (ReadsShare.misfit h′ l′ s′ n) = absurd (n (e ∙ ap length (one-letters heads lawful h h′ l l′ bytes s s′)) f)
-  reads-share-once (ReadsShare.unfinished b) (ReadsShare.complete h l s e f) = absurd (not-share-and-beginning heads lawful bytes (h, l, s) b)
-  reads-share-once (ReadsShare.unfinished b) (ReadsShare.unfinished b′) = (refl, refl, refl)
-  reads-share-once (ReadsShare.unfinished b) (ReadsShare.malformed m) = absurd (m .1 b)
-  reads-share-once (ReadsShare.unfinished b) (ReadsShare.misfit h l s n) = absurd (not-share-and-beginning heads lawful bytes (h, l, s) b)
-  reads-share-once (ReadsShare.malformed m) (ReadsShare.complete h l s e f) = absurd (m .0 (h, l, s))
-  reads-share-once (ReadsShare.malformed m) (ReadsShare.unfinished b) = absurd (m .1 b)
-  reads-share-once (ReadsShare.malformed m) (ReadsShare.malformed m′) = (refl, refl, refl)
-  reads-share-once (ReadsShare.malformed m) (ReadsShare.misfit h l s n) = absurd (m .0 (h, l, s))
-  reads-share-once (ReadsShare.misfit h l s n) (ReadsShare.complete h′ l′ s′ e f) = absurd (n (e ∙ ap length (one-letters heads lawful h′ h l′ l bytes s′ s)) f)
-  reads-share-once (ReadsShare.misfit h l s n) (ReadsShare.unfinished b) = absurd (not-share-and-beginning heads lawful bytes (h, l, s) b)
-  reads-share-once (ReadsShare.misfit h l s n) (ReadsShare.malformed m) = absurd (m .0 (h, l, s))
-  reads-share-once (ReadsShare.misfit h l s n) (ReadsShare.misfit h′ l′ s′ n′) = (refl, refl, refl)
+-- bytes have one judgment
+pub judges-share-once :
+    {bytes head after after′ : List ℕ} {r r′ : ℕ} → JudgesShare bytes head r after → JudgesShare bytes head r′ after′ → (r ≡ r′) × (after ≡ after′)
+judges-share-once p q = told-once (same-judging (p .judges) (q .judges)) (p .told) (q .told)
+
+-- reading finds one thing where the head has six numbers, and judging one where it has not
+pub reads-share-once :
+    {bytes packets head held held′ after after′ : List ℕ} {r r′ : ℕ} → ReadsShare bytes packets head r held after
+    → ReadsShare bytes packets head r′ held′ after′ → (r ≡ r′) × (held ≡ held′) × (after ≡ after′)
+reads-share-once {head = head} p q =
+    ⊎-elim
+    (λ e.
+    let a = read-told e p in
+    let b = read-told e q in
+    let o = same-reading (a .1) (b .1) in
+    let t = told-once (o .0) (a .2) (b .2) in
+    (t .0, o .1, t .1))
+    (λ n.
+    let a = judged-told n p in
+    let b = judged-told n q in
+    let t = judges-share-once (a .0) (b .0) in
+    (t .0, a .1 ∙ sym (b .1), t .1))
+    (eq-or-ne (length head) 6)
+
+-- one number of bytes can stand
+pub good-bytes-once :
+    (bytes : List ℕ) → Bytes bytes → {r r′ count count′ : ℕ} → TellsGoodBytes bytes r count → TellsGoodBytes bytes r′ count′
+    → (r ≡ r′) × (count ≡ count′)
+good-bytes-once bytes b p q = (p .returned ∙ sym (q .returned), one-good bytes b _ _ (p .stand) (q .stand))

@@ -7,8 +7,9 @@ ghost use Rattle.share.specs.Calls.{writeRefusal, headFor};
 ghost use Rattle.heads.specs.Heads.{heads};
 ghost use Rattle.layout.specs.Share.{shareOf};
 ghost use Rattle.group.specs.Ranges.{groupOf};
+ghost use Rattle.judging.specs.Judging.{outcomeOf};
 ghost use Rattle.c_answers.specs.Exports.{Fills};
-ghost use Rattle.c_shares.specs.Shares.{six, JudgesShare, ReadsShare, Misfits};
+ghost use Rattle.c_shares.specs.Shares.{six, TellsJudgment, JudgesShare, ReadsShare, TellsGoodBytes};
 
 // A node's packets as a share. Refusals: 1, 2, 3, 5 for the packets, 6 for the share.
 #[no_mangle]
@@ -41,12 +42,11 @@ pub fn put_head(head: Head, into: &mut [usize])
     into[5] = head.batch as usize;
 }
 
-// What bytes are, without copying letters. Refusals: 7, 8, and then 6 for a head that has not six numbers.
-#[no_mangle]
-pub extern "C" fn dulvaspen_judge_share(share: &[u8], head: &mut [usize]) -> usize
-    ensures { λ r. ⌜ JudgesShare (now (share .entry)) (now (head .entry)) r (now (head .exit)) ⌝ }
+// Tells a judgment: its number, and a share's head where there is room for six numbers, else 6.
+pub fn put_judgment(judgment: Judgment, head: &mut [usize]) -> usize
+    ensures { λ r. ⌜ TellsJudgment (now (head .entry)) (outcomeOf judgment) r (now (head .exit)) ⌝ }
 {
-    match share::judge(share) {
+    match judgment {
         Judgment::Complete(found) => {
             if head.len() != 6 {
                 return 6;
@@ -55,20 +55,19 @@ pub extern "C" fn dulvaspen_judge_share(share: &[u8], head: &mut [usize]) -> usi
             0
         }
         Judgment::Refused(refusal) => group::refusal_number(refusal),
+        Judgment::Malformed(refusal, _) => group::refusal_number(refusal),
     }
 }
 
-// The number where the head has not six numbers: 7 and 8 come before 6.
-fn misfit(share: &[u8]) -> usize
-    ensures { λ r. ⌜ Misfits (now (share .entry)) r ⌝ }
+// What bytes are, without copying letters. Refusals: 7 to 12, and then 6 for a head that has not six numbers.
+#[no_mangle]
+pub extern "C" fn dulvaspen_judge_share(share: &[u8], head: &mut [usize]) -> usize
+    ensures { λ r. ⌜ JudgesShare (now (share .entry)) (now (head .entry)) r (now (head .exit)) ⌝ }
 {
-    match share::judge(share) {
-        Judgment::Complete(_) => 6,
-        Judgment::Refused(refusal) => group::refusal_number(refusal),
-    }
+    put_judgment(share::judge(share), head)
 }
 
-// A share's letters and its head. Refusals: 7, 8, and then 6 for packets of another length than T, or a head that has not six numbers.
+// A share's letters and its head. Refusals: 7 to 12, and then 6 for packets of another length than T, or a head that has not six numbers.
 #[no_mangle]
 pub extern "C" fn dulvaspen_read_share(
     share: &[u8],
@@ -78,13 +77,17 @@ pub extern "C" fn dulvaspen_read_share(
     ensures { λ r. ⌜ ReadsShare (now (share .entry)) (now (packets .entry)) (now (head .entry)) r (now (packets .exit)) (now (head .exit)) ⌝ }
 {
     if head.len() != 6 {
-        return misfit(share);
+        return put_judgment(share::judge(share), head);
     }
-    match share::read(share, packets) {
-        Judgment::Complete(found) => {
-            put_head(found, head);
-            0
-        }
-        Judgment::Refused(refusal) => group::refusal_number(refusal),
-    }
+    put_judgment(share::read(share, packets), head)
+}
+
+// How many bytes can stand, from the front: all of them for a share or the beginning of one, else the index of the first that can't. It
+// refuses nothing.
+#[no_mangle]
+pub extern "C" fn dulvaspen_good_bytes(share: &[u8], bytes: &mut usize) -> usize
+    ensures { λ r. ⌜ TellsGoodBytes (now (share .entry)) r (now (bytes .exit)) ⌝ }
+{
+    *bytes = share::good_bytes(share);
+    0
 }

@@ -6,6 +6,8 @@ use Prim.Native.Nat.{ℕ, zero, suc, _<_}
 use native.Mathlib.Omega.{arith}
 use lib.ListN.{getD, take}
 use Rattle.shifts.specs.Rule.{t}
+use Rattle.group.specs.declared.Refusal.the-variants.{AfterEnd}
+use Rattle.group.specs.Answers.{Outcome}
 use Rattle.group.specs.Ranges.{NodeOf}
 use Rattle.lengths.specs.Lengths.{nodeLetters}
 use Rattle.sequences.specs.Lists.{joined}
@@ -19,7 +21,7 @@ use Rattle.layout.specs.Judgment.{IsShare}
 use Rattle.layout.proofs.Judgments.{cut-is-beginning, share-then-more, nothing-begins}
 use Rattle.heads.specs.Heads.{heads}
 use Rattle.share.specs.Calls.{headFor}
-use Rattle.judging.specs.Judging.{noHead, Judges}
+use Rattle.judging.specs.Judging.{WouldStand, Wrong, Judges}
 use Rattle.heads.proofs.Kind1Laws.{lawful, total-of}
 use Rattle.examples.specs.Examples.{AllHold, one, stored, twelve}
 
@@ -64,16 +66,32 @@ some-share : IsShare heads stored
 some-share = (headFor one 1 7, letters, is-share)
 
 -- P9 to P12, judged
-judged : Judges stored 0 (headFor one 1 7)
+judged : Judges stored (Outcome.fine (headFor one 1 7))
 judged = Judges.complete (headFor one 1 7) letters is-share
 
-cut : (any : ℕ) → any < 256 → Judges (take 80 stored) 7 noHead
+cut : (any : ℕ) → any < 256 → Judges (take 80 stored) (Outcome.refused 7)
 cut any h = Judges.unfinished (cut-is-beginning heads lawful stored 80 some-share (omega arith))
 
-longer : (any : ℕ) → any < 256 → Judges (stored ++ (any ∷ [])) 8 noHead
-longer any h = Judges.malformed (share-then-more heads lawful stored (any ∷ []) some-share (omega arith))
+-- one byte too many stands after the end of the share
+too-many : (any : ℕ) → Wrong (stored ++ (any ∷ [])) AfterEnd 81
+too-many any =
+    record {
+      offends =
+          record {
+            within = omega arith;
+            before = ([], some-share);
+            not-with = λ s. share-then-more heads lawful stored (any ∷ s .0) some-share (omega arith) .0 (s .1);
+          };
+      head = headFor one 1 7;
+      rest = [];
+      begins = (letters, is-share);
+      place = WouldStand.after-end 81 (omega (arith, is-share .count));
+    }
 
-nothing : (any : ℕ) → any < 256 → Judges [] 7 noHead
+longer : (any : ℕ) → any < 256 → Judges (stored ++ (any ∷ [])) (Outcome.wrong 12 81)
+longer any h = Judges.malformed AfterEnd 81 (too-many any)
+
+nothing : (any : ℕ) → any < 256 → Judges [] (Outcome.refused 7)
 nothing any h = Judges.unfinished (nothing-begins heads lawful)
 
 -- P1 to P12

@@ -5,15 +5,17 @@ use Prim.Native.Nat.{ℕ, _<_}
 use lib.ListN.{length, take, replicate}
 use Rattle.letters.specs.Algebra.{xors}
 use Rattle.group.specs.declared.Group.{Group}
+use Rattle.group.specs.Answers.{Outcome}
 use Rattle.sequences.specs.Lists.{joined, ranked}
 use Rattle.matrix.specs.Matrix.{packets}
 use Rattle.matrix.specs.Pieces.{reading}
 use Rattle.matrix.specs.Counts.{recoveryCost}
 use Rattle.matrix.specs.Repair.{helping, equations}
 use Rattle.layout.specs.Share.{shareOf}
+use Rattle.heads.specs.declared.Head.{Head}
 use Rattle.heads.specs.Heads.{heads}
 use Rattle.share.specs.Calls.{headFor}
-use Rattle.judging.specs.Judging.{noHead, Judges}
+use Rattle.judging.specs.Judging.{Judges}
 
 pub data Example : Type 0 where
   -- the packets that a node holds of a file
@@ -24,8 +26,8 @@ pub data Example : Type 0 where
   repair : (g : Group) (file : List ℕ) (lost : ℕ) (helpers pieces : List ℕ) → Example
   -- the share of a node's packets, of so many bytes
   share : (g : Group) (file : List ℕ) (node batch : ℕ) (bytes : List ℕ) (size : ℕ) → Example
-  -- bytes that are refused with a number, whatever the one byte is that they may name
-  judgment : (bytes : ℕ → List ℕ) (number : ℕ) → Example
+  -- bytes and what judging them gives, whatever the one byte is that they may name
+  judgment : (bytes : ℕ → List ℕ) (found : Outcome Head) → Example
 
 -- the pieces that the helpers make of what they hold, one after another
 abbrev pub pieces : Group → List ℕ → ℕ → List ℕ → List ℕ
@@ -40,8 +42,8 @@ Agrees (Example.repair g file lost helpers sent) =
     (pieces g file lost helpers ≡ sent) × (equations xors g lost helpers (packets xors g file lost) ≡ sent)
 Agrees (Example.share g file node batch bytes size) =
     (shareOf heads (headFor g node batch) (packets xors g file node) ≡ bytes) × (length bytes ≡ size)
-    × Judges bytes 0 (headFor g node batch)
-Agrees (Example.judgment bytes number) = (any : ℕ) → any < 256 → Judges (bytes any) number noHead
+    × Judges bytes (Outcome.fine (headFor g node batch))
+Agrees (Example.judgment bytes found) = (any : ℕ) → any < 256 → Judges (bytes any) found
 
 -- all of a list do
 unfoldable pub AllHold : List Example → Type 0
@@ -69,7 +71,7 @@ stored =
     ∷ 0x03 ∷ 0x11 ∷ 0x50
     ∷ (replicate 62 0x00 ++ (0x04 ∷ 0x02 ∷ 0x00 ∷ 0x00 ∷ 0x00 ∷ []))
 
--- P1 to P12
+-- P1 to P12; P11's refusal is 12 since Ask 2, and the byte after the share is the first wrong one
 unfoldable pub twelve : List Example
 twelve =
     Example.packetsOf two file 1 (0x11 ∷ 0x22 ∷ 0x50 ∷ 0xA0 ∷ [])
@@ -81,7 +83,7 @@ twelve =
     ∷ Example.repair two file 2 (3 ∷ 1 ∷ []) (0x01 ∷ 0x12 ∷ 0x30 ∷ 0x11 ∷ 0x72 ∷ 0xA0 ∷ [])
     ∷ Example.recovery one short (3 ∷ 2 ∷ []) short 0
     ∷ Example.share one short 1 7 stored 81
-    ∷ Example.judgment (λ any. take 80 stored) 7
-    ∷ Example.judgment (λ any. stored ++ (any ∷ [])) 8
-    ∷ Example.judgment (λ any. []) 7
+    ∷ Example.judgment (λ any. take 80 stored) (Outcome.refused 7)
+    ∷ Example.judgment (λ any. stored ++ (any ∷ [])) (Outcome.wrong 12 81)
+    ∷ Example.judgment (λ any. []) (Outcome.refused 7)
     ∷ []

@@ -1,12 +1,11 @@
 -- Reading undoes writing, and writing undoes reading: both speak of the same share.
-use mathlib.Core.Path.{_≡_, refl, sym, ap, _∙_}
+use mathlib.Core.Path.{_≡_, sym, ap, _∙_}
 use mathlib.Core.List.{List}
 use Prim.Native.Nat.{ℕ, _^_, _<_}
-use native.Mathlib.Omega.{arith}
 use lib.ListN.{length}
 use borrow.Author.Tests.{eq-eqb}
 use Rattle.group.specs.declared.Answer.{Answer}
-use Rattle.group.specs.Answers.{ifFine}
+use Rattle.group.specs.Answers.{ifFine, Outcome}
 use Rattle.group.specs.Ranges.{nodeRefusal}
 use Rattle.lengths.specs.Lengths.{nodeLetters}
 use Rattle.group.proofs.InRange.{node-of, of-node}
@@ -42,11 +41,11 @@ written h letters before after r batch bytes e w =
 
 -- Read after write gives back head and letters: whatever the buffer of that length held.
 pub read-after-write :
-    (h : Head) (letters before xs buffer after : List ℕ) (r : Answer) (n : ℕ) (found : Head) → h .batch < 2 ^ 32 → Bytes letters
+    (h : Head) (letters before xs buffer after : List ℕ) (r : Answer) (found : Outcome Head) → h .batch < 2 ^ 32 → Bytes letters
     → writeRefusal h (length letters) (length before) ≡ 0
     → Written h letters before r xs
-    → length buffer ≡ length letters → Reads xs buffer n found after → (n ≡ 0) × (found ≡ h) × (after ≡ letters)
-read-after-write h letters before xs buffer after r n found batch bytes e w l s =
+    → length buffer ≡ length letters → Reads xs buffer found after → (found ≡ Outcome.fine h) × (after ≡ letters)
+read-after-write h letters before xs buffer after r found batch bytes e w l s =
     same-reading s (Reads.complete h letters (written h letters before xs r batch bytes e w) l)
 
 -- no check refuses to write a share again
@@ -62,18 +61,15 @@ fits h letters xs s =
     long = ap length (s .is) ∙ share-length heads h letters ∙ ap (sizeFor kind1Size) count
 
 -- what read takes as complete is a share
-pub read-share : {xs before after : List ℕ} {n : ℕ} {h : Head} → Reads xs before n h after → n ≡ 0 → ShareOf heads h after xs
-read-share (Reads.complete h letters s l) e = s
-read-share (Reads.unfinished b) e = absurd (omega arith)
-read-share (Reads.malformed m) e = absurd (omega arith)
-read-share (Reads.misfit h letters s n) e = absurd (omega arith)
+pub read-share : {xs before after : List ℕ} {h : Head} → Reads xs before (Outcome.fine h) after → ShareOf heads h after xs
+read-share (Reads.complete h letters s l) = s
 
 -- What read takes as complete, write would have written, byte for byte.
 pub write-after-read :
-    (h : Head) (xs buffer letters before after : List ℕ) (r : Answer) → Reads xs buffer 0 h letters
+    (h : Head) (xs buffer letters before after : List ℕ) (r : Answer) → Reads xs buffer (Outcome.fine h) letters
     → length before ≡ length xs → Written h letters before r after → after ≡ xs
 write-after-read h xs buffer letters before after r s l w =
-    let share = read-share s refl in
+    let share = read-share s in
     let fine = fits h letters xs share in
     w .held
     ∙ ap (λ n. ifFine (writeRefusal h (length letters) n) (shareOf heads h letters) before) l

@@ -1,27 +1,32 @@
--- What the calls promise, in the numbers of document 01 (docs/SCHEME.md, 11).
+-- What the calls promise, in the numbers of documents 01 and 02 (docs/SCHEME.md, 11).
 use mathlib.Core.Path.{_≡_}
 use mathlib.Core.List.{List}
 use Prim.Native.Nat.{ℕ}
 use lib.ListN.{length}
 use Rattle.group.specs.declared.Group.{Group}
+use Rattle.group.specs.declared.Refusal.{Refusal}
+use Rattle.group.specs.declared.Refusal.the-variants.{Output, Unfinished}
 use Rattle.group.specs.declared.Answer.{Answer}
-use Rattle.group.specs.Answers.{first, ifFine, Answers}
+use Rattle.group.specs.Answers.{refusalNumber, first, ifFine, Outcome, Answers}
 use Rattle.group.specs.Ranges.{nodeRefusal, inputRefusal, outputRefusal}
 use Rattle.lengths.specs.Lengths.{nodeLetters}
 use Rattle.records.specs.Records.{sizeFor}
 use Rattle.layout.specs.Share.{shareOf, ShareOf}
-use Rattle.layout.specs.Judgment.{IsBeginning, IsNeither}
+use Rattle.layout.specs.Judgment.{IsBeginning}
 use Rattle.heads.specs.declared.Head.{Head}
-use Rattle.judging.specs.Judging.{noHead}
+use Rattle.judging.specs.Judging.{Wrong}
 use Rattle.heads.specs.Kind1.{kind1Size}
 use Rattle.heads.specs.Heads.{heads}
 
--- The number and the head that reading these bytes gives, and what the lent buffer then holds: 7 and 8 are decided before 6.
-pub data Reads (xs before : List ℕ) : ℕ → Head → List ℕ → Type 0 where
-  complete : (h : Head) (letters : List ℕ) → ShareOf heads h letters xs → length before ≡ length letters → Reads xs before 0 h letters
-  unfinished : IsBeginning heads xs → Reads xs before 7 noHead before
-  malformed : IsNeither heads xs → Reads xs before 8 noHead before
-  misfit : (h : Head) (letters : List ℕ) → ShareOf heads h letters xs → (length before ≡ length letters → ⊥) → Reads xs before 6 noHead before
+-- What reading these bytes gives, and what the lent buffer then holds: 7 to 12 are decided before 6.
+pub data Reads (xs before : List ℕ) : Outcome Head → List ℕ → Type 0 where
+  complete :
+      (h : Head) (letters : List ℕ) → ShareOf heads h letters xs → length before ≡ length letters → Reads xs before (Outcome.fine h) letters
+  unfinished : IsBeginning heads xs → Reads xs before (Outcome.refused (refusalNumber Unfinished)) before
+  malformed : (r : Refusal) (q : ℕ) → Wrong xs r q → Reads xs before (Outcome.wrong (refusalNumber r) q) before
+  misfit :
+      (h : Head) (letters : List ℕ) → ShareOf heads h letters xs → (length before ≡ length letters → ⊥)
+      → Reads xs before (Outcome.refused (refusalNumber Output)) before
 
 -- the bytes of node i's share
 unfoldable pub shareBytes : Group → ℕ → ℕ

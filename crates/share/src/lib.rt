@@ -13,13 +13,14 @@ use group::checks;
 use heads::Head;
 use heads::kind1;
 pub use judging::Judgment;
+pub use judging::good_bytes;
 pub use judging::judge;
 use lengths::known;
 use records::sizes;
 ghost use Rattle.group.specs.Answers.{Answers};
 ghost use Rattle.group.specs.Ranges.{nodeRefusal};
+ghost use Rattle.judging.specs.Judging.{outcomeOf};
 ghost use Rattle.share.specs.Calls.{Reads, Written, headFor, shareBytes};
-ghost use Rattle.judging.specs.Judging.{judgmentNumber, headOf};
 
 // The bytes of a node's share. Refusals: 1, 2, 3.
 pub fn share_bytes(g: Group, node: usize) -> Answer
@@ -51,12 +52,13 @@ pub fn write(g: Group, node: usize, batch: u32, packets: &[u8], share: &mut [u8]
 }
 
 // Reads any bytes. Of a share, the answer is the head, and `packets`, which must have exactly T letters, then holds its
-// letters. A refused call leaves `packets` as it was. Refusals: 7 and 8, and then 6.
+// letters. A refused call leaves `packets` as it was. Refusals: 7 to 12, and then 6.
 pub fn read(share: &[u8], packets: &mut [u8]) -> Judgment
-    ensures { λ r. ⌜ Reads (now (share .entry)) (now (packets .entry)) (judgmentNumber r) (headOf r) (now (packets .exit)) ⌝ }
+    ensures { λ r. ⌜ Reads (now (share .entry)) (now (packets .entry)) (outcomeOf r) (now (packets .exit)) ⌝ }
 {
     match judge(share) {
         Judgment::Refused(refusal) => Judgment::Refused(refusal),
+        Judgment::Malformed(refusal, at) => Judgment::Malformed(refusal, at),
         Judgment::Complete(head) => reading::fitting(share, packets, head),
     }
 }

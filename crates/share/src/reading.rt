@@ -4,16 +4,15 @@ use heads::Head;
 use heads::kind1;
 use judging::Judgment;
 use layout::reading;
-use records::sizes;
 ghost use Rattle.layout.specs.Judgment.{IsShareOf};
 ghost use Rattle.heads.specs.Heads.{heads};
+ghost use Rattle.judging.specs.Judging.{outcomeOf};
 ghost use Rattle.share.specs.Calls.{Reads};
-ghost use Rattle.judging.specs.Judging.{judgmentNumber, headOf};
 
 // Reads the letters of a share, if there is room for exactly them: refusal 6.
 pub fn fitting(share: &[u8], packets: &mut [u8], head: Head) -> Judgment
     requires { ⌜ IsShareOf heads head (now share) ⌝ }
-    ensures { λ r. ⌜ Reads (now (share .entry)) (now (packets .entry)) (judgmentNumber r) (headOf r) (now (packets .exit)) ⌝ }
+    ensures { λ r. ⌜ Reads (now (share .entry)) (now (packets .entry)) (outcomeOf r) (now (packets .exit)) ⌝ }
 {
     if packets.len() != kind1::total(head) {
         return Judgment::Refused(Refusal::Output);

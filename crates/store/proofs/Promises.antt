@@ -16,7 +16,7 @@ use Rattle.system.specs.System.{sequence}
 use Rattle.system.proofs.System.{sequence-inside}
 use Rattle.group.specs.declared.Group.{Group}
 use Rattle.group.specs.declared.Answer.{Answer}
-use Rattle.group.specs.Answers.{numberOf, valueOf, Answers}
+use Rattle.group.specs.Answers.{refusalNumber, Outcome, numberOf, valueOf, Answers}
 use Rattle.group.specs.Ranges.{NodeOf}
 use Rattle.lengths.specs.Lengths.{fileLetters, nodeLetters}
 use Rattle.group.proofs.Refusals.{if-fine}
@@ -32,6 +32,7 @@ use Rattle.matrix.proofs.Linear.{packets-linear}
 use Rattle.matrix.proofs.Theorems.{reading-once, piece-handed}
 use Rattle.matrix.proofs.Rebuilt.{rebuilds, same-buffer}
 use Rattle.matrix.proofs.CostSums.{recovery-cost, repair-cost}
+use Rattle.group.specs.declared.Refusal.the-variants.{Unfinished}
 use Rattle.group.specs.Answers.{Called}
 use Rattle.nodes.specs.Calls.{Encoded}
 use Rattle.sending.specs.Calls.{pieceRefusal, entryRefusal}
@@ -47,7 +48,7 @@ use Rattle.heads.specs.declared.Head.{Head}
 use Rattle.heads.specs.Heads.{heads}
 use Rattle.heads.proofs.Kind1Laws.{lawful}
 use Rattle.share.specs.Calls.{Reads, Written}
-use Rattle.judging.specs.Judging.{noHead, Judges}
+use Rattle.judging.specs.Judging.{Judges}
 use Rattle.share.proofs.Outcomes.{same-reading}
 use Rattle.judging.proofs.Outcomes.{same-judging}
 use Rattle.share.proofs.RoundTrip.{written}
@@ -74,25 +75,25 @@ module _ (h : Head) (packets room share : List ℕ) (r : Answer) (batch : h .bat
   wrote = written h packets room share r batch b (fine-number r _ _ (w .answered) z) w
 
   -- cut anywhere: `judge` gives 7,
-  pub cut-judged : (m : ℕ) → m < length share → (q : ℕ) (found : Head) → Judges (take m share) q found → (q ≡ 7) × (found ≡ noHead)
-  cut-judged m l q found j = same-judging j (Judges.unfinished (cut-is-beginning heads lawful share m (h, packets, wrote) l))
+  pub cut-judged : (m : ℕ) → m < length share → (found : Outcome Head) → Judges (take m share) found → found ≡ Outcome.refused (refusalNumber Unfinished)
+  cut-judged m l found j = same-judging j (Judges.unfinished (cut-is-beginning heads lawful share m (h, packets, wrote) l))
 
   -- and so does `read`, with the buffer as it was
   pub cut-read :
-      (m : ℕ) → m < length share → (buffer after : List ℕ) (q : ℕ) (found : Head) → Reads (take m share) buffer q found after
-      → (q ≡ 7) × (found ≡ noHead) × (after ≡ buffer)
-  cut-read m l buffer after q found s =
+      (m : ℕ) → m < length share → (buffer after : List ℕ) (found : Outcome Head) → Reads (take m share) buffer found after
+      → (found ≡ Outcome.refused (refusalNumber Unfinished)) × (after ≡ buffer)
+  cut-read m l buffer after found s =
       same-reading s (Reads.unfinished (cut-is-beginning heads lawful share m (h, packets, wrote) l))
 
   -- whole: `judge` gives the head,
-  pub whole-judged : (q : ℕ) (found : Head) → Judges share q found → (q ≡ 0) × (found ≡ h)
-  whole-judged q found j = same-judging j (Judges.complete h packets wrote)
+  pub whole-judged : (found : Outcome Head) → Judges share found → found ≡ Outcome.fine h
+  whole-judged found j = same-judging j (Judges.complete h packets wrote)
 
   -- and `read` the head and the letters
   pub whole-read :
-      (buffer after : List ℕ) (q : ℕ) (found : Head) → length buffer ≡ length packets → Reads share buffer q found after
-      → (q ≡ 0) × (found ≡ h) × (after ≡ packets)
-  whole-read buffer after q found l s = same-reading s (Reads.complete h packets wrote l)
+      (buffer after : List ℕ) (found : Outcome Head) → length buffer ≡ length packets → Reads share buffer found after
+      → (found ≡ Outcome.fine h) × (after ≡ packets)
+  whole-read buffer after found l s = same-reading s (Reads.complete h packets wrote l)
 
 -- ---- demand 2: packets are the product
 

@@ -1,6 +1,6 @@
--- `dulvaspen_arriving_judge` meets its contract: 5 comes first, and 7 and 8 before 6.
+-- `dulvaspen_arriving_judge` meets its contract: 5 comes first, and then the judgment is told.
 use Rattle.c_arriving.specs.Arrivals.{JudgesWords}
-use Rattle.c_arriving.proofs.Told.{found-share, found-misfit, found-refusal}
+use Rattle.c_arriving.proofs.Told.{judged}
 use borrow.Author.Needs.{needs}
 use Rattle.c_arriving.proofs.dulvaspen_arriving_judge.Statement.{statement}
 use Rattle.c_arriving.proofs.dulvaspen_arriving_judge.Tie as tie
@@ -14,42 +14,16 @@ state-in-requires c κs = search needs
 judge-requires : tie.Need-judge-requires
 judge-requires c κs = search needs
 
-enum-known-found : tie.Need-enum-known-found
-enum-known-found c = search needs
-
-returns-2 : tie.Need-returns-2
-returns-2 c = found-misfit _ _ _ _ _ (c .before .before .before .before .before .before .if1 .left) (c .before .before .before .before .before .state-in .ensures) (c .before .before .found .given .1) (c .before .before .before .before .judge .ensures) (c .if2 .taken)
-
-put-head-requires : tie.Need-put-head-requires
-put-head-requires c κs = search needs
-
-enum-known-refusal : tie.Need-enum-known-refusal
-enum-known-refusal c = search needs
-
-refusal-number-requires : tie.Need-refusal-number-requires
-refusal-number-requires c κs = search needs
+put-judgment-requires : tie.Need-put-judgment-requires
+put-judgment-requires c κs = search needs
 
 same-length : tie.Need-same-length
 same-length c = search needs
 
-returns-3 : tie.Need-returns-3
-returns-3 c = found-share _ _ _ _ _ _ (c .before .before .before .before .before .before .before .before .before .before .if1 .left) (c .before .before .before .before .before .before .before .before .before .state-in .ensures) (c .before .before .before .before .before .before .found .given .1) (c .before .before .before .before .before .before .before .before .judge .ensures) (c .before .before .before .before .if2 .left) (c .before .before .put-head .ensures)
-
-returns-4 : tie.Need-returns-4
-returns-4 c = found-refusal _ _ _ _ _ _ (c .before .before .before .before .before .before .if1 .left) (c .before .before .before .before .before .state-in .ensures) (c .before .before .refusal .given .1) (c .before .before .before .before .judge .ensures) (c .refusal-number .ensures)
+returns-2 : tie.Need-returns-2
+returns-2 c = judged _ _ (c .before .before .before .before .before .before .if1 .left) (c .before .before .before .before .before .state-in .ensures) _ _ _ _ (c .before .before .before .before .judge .ensures) (c .before .before .put-judgment .ensures)
 
 pub dulvaspen-arriving-judge-spec : {M : Type 1} → statement M
 dulvaspen-arriving-judge-spec =
     tie.close
-    (tie.spec
-    returns
-    state-in-requires
-    judge-requires
-    enum-known-found
-    returns-2
-    put-head-requires
-    enum-known-refusal
-    refusal-number-requires
-    same-length
-    returns-3
-    returns-4)
+    (tie.spec returns state-in-requires judge-requires put-judgment-requires same-length returns-2)

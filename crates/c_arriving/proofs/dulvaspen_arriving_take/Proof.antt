@@ -21,7 +21,7 @@ same-length : tie.Need-same-length
 same-length c = search needs
 
 returns-2 : tie.Need-returns-2
-returns-2 c = took _ _ _ _ _ (c .before .before .before .before .before .before .before .if1 .left) (c .before .before .before .before .before .state-in .ensures) (c .before .before .before .before .after .ensures) (c .before .before .put-state .ensures)
+returns-2 c = took _ _ (c .before .before .before .before .before .before .before .if1 .left) (c .before .before .before .before .before .state-in .ensures) _ _ _ (c .before .before .before .before .after .ensures) (c .before .before .put-state .ensures)
 
 pub dulvaspen-arriving-take-spec : {M : Type 1} → statement M
 dulvaspen-arriving-take-spec =
