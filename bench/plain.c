@@ -147,26 +147,26 @@ uint64_t plain_write(group g, uint64_t node, uint32_t batch, const uint8_t *pack
     return 0;
 }
 
-/* The head's numbers, each tested as soon as it is in: 0, 7 where the bytes end before the head does, or 8. */
+/* The head, each number tested as soon as it is in: 0, 7 where the bytes end before the head does, 8 for another kind, or 9. */
 static uint64_t judge_head(const uint8_t *share, uint64_t len, group *g, uint64_t *node) {
     if (len < 1) return 7;
     if (share[0] != 1) return 8;
     if (len < 2) return 7;
-    if (share[1] < 3 || share[1] > 16) return 8;
+    if (share[1] < 3 || share[1] > 16) return 9;
     if (len < 3) return 7;
-    if (share[2] < 2 || share[2] >= share[1]) return 8;
+    if (share[2] < 2 || share[2] >= share[1]) return 9;
     if (len < 4) return 7;
-    if (share[3] < share[2] || share[3] >= share[1]) return 8;
+    if (share[3] < share[2] || share[3] >= share[1]) return 9;
     if (len < 5) return 7;
-    if (share[4] < 1 || share[4] > share[1]) return 8;
+    if (share[4] < 1 || share[4] > share[1]) return 9;
     if (len < 7) return 7;
     *g = (group){share[1], share[2], share[3], get(share + 5, 2)};
     *node = share[4];
-    if (g->l < 1 || g->l > 4096) return 8;
+    if (g->l < 1 || g->l > 4096) return 9;
     return len < 11 ? 7 : 0;
 }
 
-/* 0, 7 or 8, by document 01 (docs/SCHEME.md, 9): letters may be any, so of a full block only the kind is looked at. */
+/* 0 or 7 to 12, by documents 01 and 02 (docs/SCHEME.md, 9 and 11): letters may be any, so of a full block only the kind is looked at. */
 uint64_t plain_judge(const uint8_t *share, uint64_t share_len, uint64_t *head) {
     group g;
     uint64_t node, r = judge_head(share, share_len, &g, &node);
@@ -180,16 +180,16 @@ uint64_t plain_judge(const uint8_t *share, uint64_t share_len, uint64_t *head) {
     if (left) {
         if (at >= share_len) return 7;
         if (share[at] != 3) return 8;
-        for (uint64_t fill = at + 1 + left; fill < least(at + 65, share_len); fill++) if (share[fill]) return 8;
+        for (uint64_t fill = at + 1 + left; fill < least(at + 65, share_len); fill++) if (share[fill]) return 10;
         at += 65;
     }
     uint8_t last[5] = {4};
     put(last + 1, letters, 4);
     for (int i = 0; i < 5; i++, at++) {
         if (at >= share_len) return 7;
-        if (share[at] != last[i]) return 8;
+        if (share[at] != last[i]) return i ? 11 : 8;
     }
-    if (at < share_len) return 8;
+    if (at < share_len) return 12;
     head[0] = g.n; head[1] = g.k; head[2] = g.d; head[3] = node; head[4] = g.l; head[5] = get(share + 7, 4);
     return 0;
 }

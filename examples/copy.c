@@ -18,13 +18,13 @@ static void say(uint64_t taken) {
                 (unsigned)head[5], (unsigned)taken, (unsigned)whole);
 }
 
-/* Copies until the input ends or a byte can't stand. Returns what the bytes are: 0, 7 or 8; or 5 if reading or writing fails. */
+/* Copies until the input ends or a byte can't stand. Returns what the bytes are: 0, 7, or 8 to 12; or 5 if reading or writing fails. */
 static uint64_t copy(FILE *to) {
     uint8_t burst[1021];
     uint64_t taken = 0, judged = 7;
     size_t got;
     dulvaspen_arriving_start(state, DULVASPEN_ARRIVING_WORDS);
-    while (judged != 8 && (got = fread(burst, 1, sizeof burst, stdin)) > 0) {
+    while (!DULVASPEN_MALFORMED(judged) && (got = fread(burst, 1, sizeof burst, stdin)) > 0) {
         if (fwrite(burst, 1, got, to) != got) return 5;
         dulvaspen_arriving_take(state, DULVASPEN_ARRIVING_WORDS, burst, got);
         judged = dulvaspen_arriving_judge(state, DULVASPEN_ARRIVING_WORDS, head, DULVASPEN_HEAD_NUMBERS);
@@ -32,6 +32,14 @@ static uint64_t copy(FILE *to) {
     }
     say(taken);
     return ferror(stdin) ? 5 : judged;
+}
+
+/* Says what the bytes are: of wrong ones what is wrong, and the index of the first byte that can't stand, in the judge's words. */
+static void tell(uint64_t judged) {
+    uint64_t good = 0;
+    dulvaspen_arriving_good_bytes(state, DULVASPEN_ARRIVING_WORDS, &good);
+    if (DULVASPEN_MALFORMED(judged)) printf("malformed %u at %u\n", (unsigned)judged, (unsigned)good);
+    else puts(judged == 0 ? "complete" : judged == 7 ? "unfinished" : "it can't be read or written");
 }
 
 int main(int argc, char **argv) {
@@ -43,7 +51,7 @@ int main(int argc, char **argv) {
     uint64_t judged = copy(to);
     if (fclose(to)) judged = 5;
     if (judged == 0 && rename(part, argv[1])) judged = 5;
-    if (judged == 8) remove(part);
-    puts(judged == 0 ? "complete" : judged == 7 ? "unfinished" : judged == 8 ? "malformed" : "it can't be read or written");
-    return judged == 0 ? 0 : judged == 7 ? 1 : judged == 8 ? 3 : 5;
+    if (DULVASPEN_MALFORMED(judged)) remove(part);
+    tell(judged);
+    return judged == 0 ? 0 : judged == 7 ? 1 : DULVASPEN_MALFORMED(judged) ? 3 : 5;
 }

@@ -23,7 +23,9 @@ with no name:
 
   complete 3 2 2 node 1 length 1 batch 7 letters 2     a share: n, k, d, the node, L, the batch and its letters
   unfinished                                           the beginning of a share, but not all of it (no bytes, too)
-  malformed                                            neither
+  malformed 9 at 4                                     neither: what is wrong, and the index, from 0, of the first byte that
+                                                       can't stand; 8 the kind of a record, 9 a number of the head, 10 a
+                                                       zero that fills the last block, 11 the total, 12 after the end
   too long for this program                            more than 65,536 bytes
 
 Exit status: 0 complete, 1 unfinished, 3 malformed, 4 too long, 5 no judgment, since the input can't be read or the line not
@@ -42,10 +44,11 @@ when the input ends, since a byte more would make it malformed.
 
   complete 3 2 2 node 1 length 1 batch 7 letters 2     a share: n, k, d, the node, L, the batch and its letters
   unfinished                                           the input ended within a share (no bytes, too)
-  malformed                                            neither
+  malformed 9 at 4                                     neither: what is wrong, by the numbers that judge's help has, and
+                                                       where, from 0
 
 On standard error: whose share it is and how many of how many bytes are in, moving where that is a terminal, and otherwise one line
-at the end.
+at the end; of a byte that can't stand, what would stand there.
 
 Exit status: 0 complete, 1 unfinished, 3 malformed, 5 no judgment, since the input can't be read or the line not written, 2 no
 proved program to run. A letter that was flipped on the way is not noticed.

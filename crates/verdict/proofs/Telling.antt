@@ -1,57 +1,49 @@
 -- The line that was put is the line of the judgment.
 use mathlib.Core.Path.{_≡_, refl, ap, sym, subst, _∙_}
 use mathlib.Core.List.{List, _++_}
-use Prim.Native.Nat.{ℕ, zero, suc, _+_, _≤_}
+use Prim.Native.Nat.{ℕ, _+_, _≤_}
 use native.Mathlib.Omega.{arith}
 use lib.ListN.{length, take, drop, length-append}
 use lib.Seq.{take-at}
 use Rattle.io.specs.Counts.{Counts}
 use Rattle.group.specs.declared.Refusal.{Refusal}
-use Rattle.group.specs.Answers.{refusalNumber, ifFine}
+use Rattle.group.specs.Answers.{refusalNumber, ifFine, Outcome}
 use Rattle.lengths.specs.Lengths.{nodeLetters}
 use Rattle.group.proofs.InRange.{of-node}
-use Rattle.group.proofs.Refusals.{numbered}
 use Rattle.heads.specs.declared.Head.{Head}
 use Rattle.heads.specs.Kind1.{kind1Total}
 use Rattle.judging.specs.declared.Judgment.{Judgment}
-use Rattle.judging.specs.Judging.{judgmentNumber, headOf, noHead, Judges}
+use Rattle.judging.specs.Judging.{outcomeOf, Judges}
 use Rattle.text.specs.Text.{Put}
-use Rattle.verdict.specs.Line.{completeLine, refusedLine, lineFor, judgmentLine, Line, Told}
+use Rattle.verdict.specs.Line.{unfinishedLine, completeLine, malformedLine, lineFor, judgmentLine, Line, Told}
 
 -- the judgment of some bytes has their line: a share's node is one of its group, so that T is what the head says
-pub judged-line : {xs : List ℕ} {n : ℕ} {h : Head} → Judges xs n h → judgmentLine n h ≡ lineFor n h
+pub judged-line : {xs : List ℕ} {j : Outcome Head} → Judges xs j → judgmentLine j ≡ lineFor j
 unfolding kind1Total
 judged-line (Judges.complete h letters s) =
     ap (λ q. completeLine h (ifFine q (nodeLetters (h .group) (h .node)) 0)) (of-node (h .group) (h .node) (s .allowed .node))
 judged-line (Judges.unfinished b) = refl
-judged-line (Judges.malformed m) = refl
+judged-line (Judges.malformed r q w) = refl
 
--- the line of a number that isn't 0
-refused-line : (n : ℕ) (h : Head) → (n ≡ 0 → ⊥) → judgmentLine n h ≡ refusedLine n
-refused-line zero h f = absurd (f refl)
-refused-line (suc n) h f = refl
-
--- the lines of the two judgments that there are
+-- the lines of the judgments that there are
 module _ {before after : List ℕ} {r : ℕ} (j : Judgment) where
+  put-line : (k : Judgment) → j ≡ k → Put before 0 (judgmentLine (outcomeOf k)) r after → Put before 0 (judgmentLine (outcomeOf j)) r after
+  put-line k e put = subst (λ k. Put before 0 (judgmentLine (outcomeOf k)) r after) (sym e) put
+
   pub put-complete :
       (h : Head) (letters : ℕ) → j ≡ Judgment.Complete h → letters ≡ kind1Total h
-      → Put before 0 (completeLine h letters) r after → Put before 0 (judgmentLine (judgmentNumber j) (headOf j)) r after
-  put-complete h letters e t put =
-      subst
-      (λ k. Put before 0 (judgmentLine (judgmentNumber k) (headOf k)) r after)
-      (sym e)
-      (subst (λ n. Put before 0 (completeLine h n) r after) t put)
+      → Put before 0 (completeLine h letters) r after → Put before 0 (judgmentLine (outcomeOf j)) r after
+  put-complete h letters e t put = put-line (Judgment.Complete h) e (subst (λ n. Put before 0 (completeLine h n) r after) t put)
 
-  pub put-refused :
-      (refusal : Refusal) (number : ℕ) → j ≡ Judgment.Refused refusal → number ≡ refusalNumber refusal
-      → Put before 0 (refusedLine number) r after → Put before 0 (judgmentLine (judgmentNumber j) (headOf j)) r after
-  put-refused refusal number e t put =
-      let l : refusedLine number ≡ judgmentLine (refusalNumber refusal) noHead =
-      ap refusedLine t ∙ sym (refused-line (refusalNumber refusal) noHead (numbered refusal)) in
-      subst
-      (λ k. Put before 0 (judgmentLine (judgmentNumber k) (headOf k)) r after)
-      (sym e)
-      (subst (λ k. Put before 0 k r after) l put)
+  pub put-unfinished :
+      (refusal : Refusal) → j ≡ Judgment.Refused refusal → Put before 0 unfinishedLine r after → Put before 0 (judgmentLine (outcomeOf j)) r after
+  put-unfinished refusal e put = put-line (Judgment.Refused refusal) e put
+
+  pub put-malformed :
+      (refusal : Refusal) (number at : ℕ) → j ≡ Judgment.Malformed refusal at → number ≡ refusalNumber refusal
+      → Put before 0 (malformedLine number at) r after → Put before 0 (judgmentLine (outcomeOf j)) r after
+  put-malformed refusal number at e t put =
+      put-line (Judgment.Malformed refusal at) e (subst (λ n. Put before 0 (malformedLine n at) r after) t put)
 
 -- a line that is put at the start is told
 pub told : {xs before after text : List ℕ} {r : ℕ} → Line xs text → Put before 0 text r after → Told xs before r after
@@ -69,9 +61,7 @@ counted {before} {after} {text} {r} put =
 
 -- the line of the judgment of these bytes is told
 pub told-judged :
-    {xs before after : List ℕ} {r : ℕ} (j : Judgment) → length xs ≤ 65536 → Judges xs (judgmentNumber j) (headOf j)
-    → Put before 0 (judgmentLine (judgmentNumber j) (headOf j)) r after → Told xs before r after
+    {xs before after : List ℕ} {r : ℕ} (j : Judgment) → length xs ≤ 65536 → Judges xs (outcomeOf j) → Put before 0 (judgmentLine (outcomeOf j)) r after
+    → Told xs before r after
 told-judged {before = before} {after = after} {r = r} j short judges put =
-    told
-    (Line.judged (judgmentNumber j) (headOf j) short judges)
-    (subst (λ k. Put before 0 k r after) (judged-line judges) put)
+    told (Line.judged (outcomeOf j) short judges) (subst (λ k. Put before 0 k r after) (judged-line judges) put)

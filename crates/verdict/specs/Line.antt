@@ -1,11 +1,10 @@
 -- The judge's line for any bytes (document 01, its last lines on the examples; docs/SCHEME.md, 13).
 use mathlib.Core.Path.{_≡_}
-use mathlib.Core.Bool.{cond}
 use mathlib.Core.List.{List, [], _∷_, _++_}
-use Prim.Native.Nat.{ℕ, zero, suc, _+_, _≤_, _<_}
-use lib.Dec.{eqb}
+use Prim.Native.Nat.{ℕ, _≤_, _<_}
 use lib.ListN.{length, drop}
 use Rattle.group.specs.declared.Group.{Group}
+use Rattle.group.specs.Answers.{Outcome}
 use Rattle.lengths.specs.Lengths.{nodeLetters}
 use Rattle.heads.specs.declared.Head.{Head}
 use Rattle.heads.specs.Kind1.{kind1Total}
@@ -44,9 +43,13 @@ newLine = 10 ∷ []
 abbrev pub unfinishedLine : List ℕ
 unfinishedLine = 117 ∷ 110 ∷ 102 ∷ 105 ∷ 110 ∷ 105 ∷ 115 ∷ 104 ∷ 101 ∷ 100 ∷ 10 ∷ []
 
--- "malformed" and the end of the line
-abbrev pub malformedLine : List ℕ
-malformedLine = 109 ∷ 97 ∷ 108 ∷ 102 ∷ 111 ∷ 114 ∷ 109 ∷ 101 ∷ 100 ∷ 10 ∷ []
+-- "malformed "
+abbrev pub malformedWord : List ℕ
+malformedWord = 109 ∷ 97 ∷ 108 ∷ 102 ∷ 111 ∷ 114 ∷ 109 ∷ 101 ∷ 100 ∷ 32 ∷ []
+
+-- " at "
+abbrev pub atWord : List ℕ
+atWord = 32 ∷ 97 ∷ 116 ∷ 32 ∷ []
 
 -- "too long for this program" and the end of the line
 abbrev pub tooLongLine : List ℕ
@@ -66,24 +69,26 @@ completeLine h letters =
     ++ (numbered lettersWord letters
     ++ newLine))))
 
--- the line of a refusal: 7 is `unfinished`; judging has but 8 besides
-abbrev pub refusedLine : ℕ → List ℕ
-refusedLine number = cond (eqb number 7) unfinishedLine malformedLine
+-- `malformed`, what is wrong by its number, and the index of the first byte that can't stand there
+abbrev pub malformedLine : ℕ → ℕ → List ℕ
+malformedLine number at = numbered malformedWord number ++ (numbered atWord at ++ newLine)
 
--- the line of a judgment: its number (0 where nothing is refused) and its head
-abbrev pub lineFor : ℕ → Head → List ℕ
-lineFor zero h = completeLine h (nodeLetters (h .group) (h .node))
-lineFor (suc number) h = refusedLine (suc number)
+-- the line of a judgment; judging refuses by 7 alone, or tells what is wrong and where
+abbrev pub lineFor : Outcome Head → List ℕ
+lineFor (Outcome.fine h) = completeLine h (nodeLetters (h .group) (h .node))
+lineFor (Outcome.refused n) = unfinishedLine
+lineFor (Outcome.wrong n q) = malformedLine n q
 
--- the same for any number and head, those of no bytes too: a head whose numbers are out of range, which no share has, counts no letters
-abbrev pub judgmentLine : ℕ → Head → List ℕ
-judgmentLine zero h = completeLine h (kind1Total h)
-judgmentLine (suc number) h = refusedLine (suc number)
+-- the same for any judgment, those of no bytes too: a head whose numbers are out of range, which no share has, counts no letters
+abbrev pub judgmentLine : Outcome Head → List ℕ
+judgmentLine (Outcome.fine h) = completeLine h (kind1Total h)
+judgmentLine (Outcome.refused n) = unfinishedLine
+judgmentLine (Outcome.wrong n q) = malformedLine n q
 
 -- The line for these bytes: more than 65,536, whatever they are, are too long; others are judged.
 pub data Line (xs : List ℕ) : List ℕ → Type 0 where
   long : 65536 < length xs → Line xs tooLongLine
-  judged : (number : ℕ) (h : Head) → length xs ≤ 65536 → Judges xs number h → Line xs (lineFor number h)
+  judged : (j : Outcome Head) → length xs ≤ 65536 → Judges xs j → Line xs (lineFor j)
 
 -- What the call answers and what the lent buffer then holds: how many bytes the line has; and the line at its start, every other byte as it was.
 pub record Told (xs before : List ℕ) (r : ℕ) (after : List ℕ) : Type 0 where

@@ -9,8 +9,8 @@ ghost use Prim.Native.Nat.{_≤_};
 ghost use lib.ListN.{length};
 ghost use Rattle.io.specs.Counts.{Counts};
 ghost use Rattle.text.specs.Text.{Put};
-ghost use Rattle.judging.specs.Judging.{judgmentNumber, headOf};
-ghost use Rattle.verdict.specs.Line.{Told, completeGroup, completeLine, refusedLine, judgmentLine};
+ghost use Rattle.judging.specs.Judging.{outcomeOf};
+ghost use Rattle.verdict.specs.Line.{Told, completeGroup, completeLine, malformedLine, judgmentLine};
 
 // Puts `complete` and the group's three numbers.
 fn put_group(g: Group, line: &mut [u8]) -> usize
@@ -36,27 +36,26 @@ fn put_complete(head: Head, letters: usize, line: &mut [u8]) -> usize
     text::put(line, end, b"\n")
 }
 
-// Puts the line of a refusal, by its number: `unfinished` for 7; judging has but 8 besides.
-fn put_refused(number: usize, line: &mut [u8]) -> usize
+// Puts the line of bytes with something wrong: its number, and the index of the first byte that can't stand there.
+fn put_malformed(number: usize, at: usize, line: &mut [u8]) -> usize
     requires { ⌜ length (now line) ≡ 192 ⌝ }
-    ensures { λ r. ⌜ Put (now (line .entry)) 0 (refusedLine number) r (now (line .exit)) ⌝ }
+    ensures { λ r. ⌜ Put (now (line .entry)) 0 (malformedLine number at) r (now (line .exit)) ⌝ }
 {
-    if number == 7 {
-        text::put(line, 0, b"unfinished\n")
-    } else {
-        text::put(line, 0, b"malformed\n")
-    }
+    let what = text::put_number(line, 0, b"malformed ", number);
+    let place = text::put_number(line, what, b" at ", at);
+    text::put(line, place, b"\n")
 }
 
 // Puts the line of a judgment at the start of `line`, whose other bytes stay as they were. The answer is how many bytes it has, the end of
 // the line included. A share of any length has one, and its bytes needn't be there.
 pub fn judgment_line(judgment: Judgment, line: &mut [u8; 192]) -> usize
-    ensures text { λ r. ⌜ Put (now (line .entry)) 0 (judgmentLine (judgmentNumber judgment) (headOf judgment)) r (now (line .exit)) ⌝ }
+    ensures text { λ r. ⌜ Put (now (line .entry)) 0 (judgmentLine (outcomeOf judgment)) r (now (line .exit)) ⌝ }
     ensures within { λ r. ⌜ Counts r (now (line .exit)) ⌝ }
 {
     match judgment {
         Judgment::Complete(head) => put_complete(head, kind1::total(head), line),
-        Judgment::Refused(refusal) => put_refused(group::refusal_number(refusal), line),
+        Judgment::Refused(_) => text::put(line, 0, b"unfinished\n"),
+        Judgment::Malformed(refusal, at) => put_malformed(group::refusal_number(refusal), at, line),
     }
 }
 

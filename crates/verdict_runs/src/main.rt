@@ -1,5 +1,5 @@
-// The judge's line for every kind of bytes (docs/SCHEME.md, 13): the examples P9 to P12, the largest numbers, and the two sides of 65,536 bytes.
-// The file stdout has what it must write, by hand from that page.
+// The judge's line for every kind of bytes (docs/SCHEME.md, 13): the examples P9 to P12, each thing that can be wrong, the largest numbers, and the
+// two sides of 65,536 bytes. The file stdout has what it must write, by hand from that page.
 use libc::STDOUT_FILENO;
 
 // Some words, and after them the line for these bytes.
@@ -25,12 +25,29 @@ fn lengths(share: &[u8]) {
     show(b"P12: ", lines::part(share, 0, 0));
 }
 
+// A share of 81 bytes with another byte at an index.
+fn changed(words: &[u8], share: &[u8], at: usize, byte: u8) {
+    let mut other = [0u8; 81];
+    lines::put(&mut other, 0, share);
+    lines::put(&mut other, at, &[byte]);
+    show(words, &other);
+}
+
+// The same with each thing that can be wrong within a share.
+fn wrong(share: &[u8]) {
+    changed(b"P9 with a full block: ", share, 11, 2);
+    changed(b"P9 with node 4: ", share, 4, 4);
+    changed(b"P9 with a last byte of its fill: ", share, 75, 1);
+    changed(b"P9 with 258 letters in its end: ", share, 78, 1);
+}
+
 // P9 to P12: [3,2,2], L = 1, node 1, batch 7.
 fn examples() {
     let g = group::of(3, 2, 2, 1);
     let mut share = [0u8; 81];
     share::write(g, 1, 7, &[0x11, 0x50], &mut share);
     lengths(&share);
+    wrong(&share);
 }
 
 // Writes a node's share of [16,15,15], L = 4,096, from so many letters to so many bytes.

@@ -1,27 +1,44 @@
 // What standard error says of a share that is coming in. Only a terminal can take a line back, so only there it moves.
 use arriving::Arriving;
 use arriving::Coming;
+use group::Refusal;
 use heads::Head;
 use libc::STDERR_FILENO;
+
+// Writes these words.
+fn say(words: &[u8]) {
+    io::write_all(STDERR_FILENO, words);
+}
 
 // Writes how far a share is, with no end of the line.
 fn write_share(head: Head, part: usize, whole: usize) {
     let mut line = [0u8; 256];
     let count = progress::line(head, part, whole, &mut line);
-    io::write_all(STDERR_FILENO, &line[..count]);
+    say(&line[..count]);
 }
 
 // Writes a line with a number in it.
 fn write_note(words: &[u8], number: usize, rest: &[u8]) {
-    io::write_all(STDERR_FILENO, words);
+    say(words);
     io::print_decimal(STDERR_FILENO, number as u64);
-    io::write_all(STDERR_FILENO, rest);
+    say(rest);
+}
+
+// Writes what would stand where a byte can't, and ends the line.
+fn write_part(refusal: Refusal) {
+    match refusal {
+        Refusal::Kind => say(b"the kind of a record\n"),
+        Refusal::HeadNumber => say(b"a number of the head\n"),
+        Refusal::Filler => say(b"a zero that fills the last block\n"),
+        Refusal::Total => say(b"the total\n"),
+        _ => say(b"nothing comes after the end\n"),
+    }
 }
 
 // Leaves the line in which a share was shown, if its head was in.
 pub fn leave(state: Arriving) {
     if let Coming::Share(_, _) = state.coming() {
-        io::write_all(STDERR_FILENO, b"\n");
+        say(b"\n");
     }
 }
 
@@ -29,26 +46,28 @@ pub fn leave(state: Arriving) {
 pub fn show(before: Arriving, state: Arriving) {
     match state.coming() {
         Coming::Share(head, whole) => {
-            io::write_all(STDERR_FILENO, b"\r");
+            say(b"\r");
             write_share(head, state.at, whole);
         }
         Coming::Refused(_) => leave(before),
+        Coming::Malformed(_, _) => leave(before),
     }
 }
 
-// The last line: how far a share came, or which byte can't be one of it. Where it moved, a share's line is there already, without its end.
+// The last line: how far a share came, or which byte can't be one of it and what would stand there. Where it moved, a share's line is there
+// already, without its end.
 pub fn end(state: Arriving, moving: bool) {
-    if state.wrong != 0 {
-        write_note(b"the byte at index ", state.at, b" can't stand there\n");
-        return;
-    }
     match state.coming() {
         Coming::Share(head, whole) => {
             if !moving {
                 write_share(head, state.at, whole);
             }
-            io::write_all(STDERR_FILENO, b"\n");
+            say(b"\n");
         }
         Coming::Refused(_) => write_note(b"no head yet, bytes so far: ", state.at, b"\n"),
+        Coming::Malformed(refusal, at) => {
+            write_note(b"the byte at index ", at, b" can't stand there: ");
+            write_part(refusal);
+        }
     }
 }
