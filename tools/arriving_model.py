@@ -1,19 +1,18 @@
 #!/usr/bin/env python3
-"""The script that crates/arriving_runs runs and what it must write, worked out from document 01 (docs/SCHEME.md, 9) alone, without the store's code.
-From the root of the repository this makes both files again, crates/arriving_runs/stdin and stdout:
+"""The script that crates/arriving_runs runs and what it must write, worked out from documents 01 and 02 (docs/SCHEME.md, 9 and 11) alone, without
+the store's code. From the root of the repository this makes both files again, crates/arriving_runs/stdin and stdout:
 
     tools/arriving_model.py
 
-A state is worked out from all bytes so far and never from a state before: the first byte that can't stand is the last of
-the shortest of their beginnings that is neither a share nor the beginning of one (tools/shares.py), and the head's
-numbers are read off the bytes before it. Whether any bytes lead to eight numbers is found out by writing such bytes down and looking
-at the state that they have. tools/script.py has the memories.
+A state is worked out from all bytes so far and never from a state before: their judgment (tools/shares.py) tells the first byte that can't
+stand and how it is refused, and the head's numbers are read off the bytes before it. Whether any bytes lead to eight numbers is found
+out by writing such bytes down and looking at the state that they have. tools/script.py has the memories.
 """
 import sys
 
 sys.dont_write_bytecode = True
 from script import NONE, Chooser, Script, listed
-from shares import ANY, in_range, judge, number, records_after_head, share, share_size, total
+from shares import AFTER, ANY, KIND, digit, in_range, judge, number, runs, share, share_size, short, swept, told, total
 
 SCRIPT = Script(600000)
 ONES = 2**64 - 1
@@ -23,24 +22,13 @@ AT, WRONG, N, K, D, NODE, L, BATCH = range(8)
 # the state of bytes, and the bytes of a state
 
 
-def standing(data):
-    """How many bytes from the front can stand: the most that are a share or the beginning of one. A beginning's beginnings
-    are beginnings, so the middle tells on which side to look."""
-    low, high = 0, len(data)
-    while low < high:
-        middle = (low + high + 1) // 2
-        if judge(data[:middle])[0] == 8:
-            high = middle - 1
-        else:
-            low = middle
-    return low
-
-
 def state_of(data):
-    """The eight words after these bytes: a byte of the head that isn't in, or can't stand, counts as 0."""
-    at = standing(data)
+    """The eight words after these bytes: how many can stand, how the next is refused (0: it isn't), and the head's numbers, where a byte that isn't
+    in, or can't stand, counts as 0."""
+    found, place = judge(data)
+    at, wrong = (place, found) if found >= KIND else (len(data), 0)
     head = bytes(data[:min(at, 11)]).ljust(11, b"\0")
-    return [at, int(at < len(data)), *head[1:5], int.from_bytes(head[5:7], "little"), int.from_bytes(head[7:], "little")]
+    return [at, wrong, *head[1:5], int.from_bytes(head[5:7], "little"), int.from_bytes(head[7:], "little")]
 
 
 def fitting(words):
@@ -48,18 +36,20 @@ def fitting(words):
     at, _, n, k, d, node, length, batch = words
     if max(n, k, d, node) > 255 or length > 65535 or batch > 2**32 - 1:
         return None
-    data = [1, n, k, d, node] + number(length, 2) + number(batch, 4)
-    if at > 11:
-        if not in_range(n, k, d) or not 1 <= node <= n or not 1 <= length <= 4096:
-            return None
-        data += [may[0] for may in records_after_head(total(d, node, length))]
-    return bytes(data[:at]) if at <= len(data) else None
+    if at <= 11:
+        return bytes([1, n, k, d, node] + number(length, 2) + number(batch, 4))[:at]
+    if not in_range(n, k, d) or not 1 <= node <= n or not 1 <= length <= 4096:
+        return None
+    letters = total(d, node, length)
+    return bytes(share(*words[N:], [0] * letters)[:at]) if at <= share_size(letters) else None
 
 
 def leading(words):
     """Bytes that lead to a state, or nothing where none do. What could lead there is written down, and looked at."""
+    if words[WRONG] not in (0, *range(KIND, AFTER + 1)):
+        return None
     data = fitting(words)
-    if data is None or words[WRONG] > 1:
+    if data is None:
         return None
     for last in [bytes([byte]) for byte in ANY] if words[WRONG] else [b""]:
         if state_of(data + last) == words:
@@ -84,22 +74,20 @@ class State:
         return State(words, leading(words))
 
     def judged(self):
-        return (8, None) if self.lead is None else judge(self.lead)
+        return (KIND, 0) if self.lead is None else judge(self.lead)
 
     def coming(self):
-        """The number, the head and the bytes of the whole share."""
-        if self.judged()[0] == 8:
-            return 8, None, 0
+        """The judgment of bytes that can't become a share, 7 while the head isn't in, and else the head and the bytes of the whole share."""
+        if self.judged()[0] >= KIND:
+            return told(self.judged())
         if len(self.lead) < 11:
-            return 7, None, 0
-        return 0, self.words[N:], share_size(total(*self.words[D:L + 1]))
+            return "7"
+        return told((0, self.words[N:])) + f" bytes {share_size(total(*self.words[D:L + 1]))}"
 
     def answers(self):
-        (found, head), (next_found, next_head, size) = self.judged(), self.coming()
-        told = f" {'not ' if self.lead is None else ''}reached judged {found}"
-        told += "" if found else listed(" of", head)
-        told += f" coming {next_found}"
-        return told + ("" if next_found else listed(" of", next_head) + f" bytes {size}")
+        good = 0 if self.lead is None else self.words[AT]
+        reached = "not reached" if self.lead is None else "reached"
+        return f" {reached} judged {told(self.judged())} coming {self.coming()} good {good}"
 
     def told(self):
         return listed(" state", self.words) + self.answers()
@@ -115,13 +103,13 @@ def start_state():
 KEPT = [start_state()]
 
 
-def told(number, name, a, words, first, state):
+def shown(number, name, a, words, first, state):
     """A line with what is told first, and then of the state that it ends in."""
     SCRIPT.line(number, name, a, NONE, words, ":" + first + state.told())
 
 
 def kept(number, name, a, words, first, state):
-    told(number, name, a, words, first, state)
+    shown(number, name, a, words, first, state)
     KEPT[0] = state
 
 
@@ -134,7 +122,7 @@ def burst(a):
 
 
 def digits(beginnings):
-    return "".join(str(judge(data)[0]) for data in beginnings)
+    return "".join(digit(judge(data)) for data in beginnings)
 
 
 def bursts(a, size):
@@ -154,18 +142,32 @@ def forge(i, value):
 
 def aside(a, i, value):
     forged = KEPT[0].with_word(i, value)
-    told(35, "aside", a, said(i, value), forged.answers(), forged.after(SCRIPT.in_a(a)))
+    shown(35, "aside", a, said(i, value), forged.answers(), forged.after(SCRIPT.in_a(a)))
 
 
 def cuts(a):
     """A digit for the first burst of each cut. All states at the end are the one after a single burst, so there is no mark."""
     data = SCRIPT.in_a(a)
-    told(36, "cuts", a, "", digits(data[:cut] for cut in range(len(data))), start_state().after(data))
+    shown(36, "cuts", a, "", digits(data[:cut] for cut in range(len(data))), start_state().after(data))
+
+
+def found(state):
+    """A state's judgment, or `none` where no bytes lead there."""
+    return "none" if state.lead is None else short(state.judged())
 
 
 def sweep():
-    after = [KEPT[0].after([byte]) for byte in ANY]
-    told(37, "sweep", NONE, "", "".join(str(state.judged()[0]) for state in after), KEPT[0])
+    SCRIPT.line(37, "sweep", NONE, NONE, "", ": " + runs([found(KEPT[0].after([byte])) for byte in ANY]))
+
+
+def change(a, at, size):
+    """Every byte at an index, and all bytes in bursts of a size: how they are cut makes no difference."""
+    SCRIPT.line(38, "change", a, NONE, f" at {at} of {size}", ": " + swept(SCRIPT.in_a(a), at))
+
+
+def word(i):
+    """Each number below 256 as a word of the state."""
+    SCRIPT.line(39, "word", NONE, NONE, f" {i}", ": " + runs([found(KEPT[0].with_word(i, value)) for value in ANY]))
 
 
 # shares in A. B has zeros from ZEROS on, and a block that is laid again and again from 0 on
@@ -239,11 +241,11 @@ def whole_shares():
             burst((at, count))
 
 
-def with_byte(at, byte, told):
+def with_byte(at, byte, act):
     """Another byte in A for a while."""
     own = SCRIPT.a[at]
     SCRIPT.put((at, 1), NONE, [byte])
-    told()
+    act()
     SCRIPT.put((at, 1), NONE, [own])
 
 
@@ -269,6 +271,34 @@ def malformed():
         for at in [at for some in kinds(SHARES[place]).values() for at in some if at < whole]:
             for byte in others(at, SCRIPT.a[at]):
                 with_byte(at, byte, each)
+
+
+# the lengths of bursts, so that a changed byte is now the first of one, now in the middle, now the last
+SIZES = [2, 3, 5, 7, 13, 64, 65, 100]
+
+
+def changed():
+    for head in SHARES[:3]:
+        SCRIPT.heading("A small share, each of its bytes as each other byte, in bursts of one byte and of several")
+        whole = laid(head, 7)
+        for at in range(whole):
+            change((0, whole), at, 1)
+            change((0, whole), at, SIZES[at % len(SIZES)])
+        change((0, whole + 1), whole, 1)
+        change((0, whole + 1), whole, whole)
+        change((0, whole + 9), whole, 4)
+
+
+def wrong_numbers():
+    for head in SHARES[:2]:
+        SCRIPT.heading("Every number as that of a wrong byte, after each byte of a share, and after its end")
+        whole = laid(head, 8)
+        start(NONE)
+        for at in range(whole):
+            word(WRONG)
+            burst((at, 1))
+        word(WRONG)
+        word(AT)
 
 
 def sweeps():
@@ -304,12 +334,16 @@ def forged():
     for at in (0, 1, 2, 3, 4, 5, 6, 7, 8, 9, 10, 11, 12, 40, 76, 77, 78, 100, whole - 5, whole - 4, whole - 1, whole):
         start((0, at))
         each_word((at, whole - at))
+        for i in range(8):
+            word(i)
     SCRIPT.heading("The same after a wrong byte")
     for at, byte in ((0, 2), (1, 17), (2, 1), (3, 6), (4, 7), (6, 17), (11, 3), (76, 2), (100, 9), (whole - 5, 3), (whole - 4, 0), (whole - 1, 1), (whole, 4)):
 
         def each():
             start((0, at + 1))
             each_word((at + 1, 7))
+            word(AT)
+            word(WRONG)
 
         with_byte(at, byte, each)
 
@@ -332,7 +366,7 @@ def at_ends():
         aside((30, whole - 30), AT, at)
     burst((30, whole - 30))
     SCRIPT.heading("All words alike, one after the other")
-    for value in (0, 1, ONES, 2):
+    for value in (0, 1, ONES, 2, KIND, AFTER):
         start(NONE)
         for i in range(8):
             forge(i, value)
@@ -342,7 +376,7 @@ def at_ends():
 
 # the two sides of each limit: the ranges, and what a number's bytes can hold
 LIMITS = {N: (2, 3, 16, 17, 255, 256), K: (1, 2, 3, 4, 255, 256), D: (1, 2, 3, 4, 255, 256), NODE: (0, 1, 4, 5, 255, 256),
-          L: (0, 1, 255, 256, 4095, 4096, 4097, 65535, 65536), BATCH: (2**32 - 1, 2**32), WRONG: (1, 2)}
+          L: (0, 1, 255, 256, 4095, 4096, 4097, 65535, 65536), BATCH: (2**32 - 1, 2**32), WRONG: (1, 7, 8, 9, 10, 11, 12, 13)}
 
 
 def limits():
@@ -377,7 +411,7 @@ def chosen_states():
         if at < 11 and not chooser.chance(4):
             known = bytes([1, *head[:4]] + number(head[4], 2) + number(head[5], 4))[:at].ljust(11, b"\0")
             head = [*known[1:5], int.from_bytes(known[5:7], "little"), int.from_bytes(known[7:], "little")]
-        words = [at, int(chooser.chance(3)), *head]
+        words = [at, chooser.one_of([0, 0, 0, 0, 1, KIND, KIND, 9, 10, 11, AFTER]), *head]
         SCRIPT.put((0, 5), NONE, [chooser.one_of([0, 1, 2, 3, 4]), chooser.within(0, 4), 0, 0, chooser.within(0, 255)])
         start(NONE)
         changed = [i for i in range(8) if words[i]]
@@ -421,6 +455,8 @@ def long():
 def main():
     whole_shares()
     malformed()
+    changed()
+    wrong_numbers()
     sweeps()
     forged()
     wide()

@@ -27,11 +27,12 @@ static void ask(uint64_t n, uint64_t k, uint64_t d, uint64_t l) {
 
 /* Whether the calls on a state of so many words, its words all alike, do what the header says. */
 static int state_of(uint64_t words, uint64_t word) {
-    uint64_t state[24], head[6] = {9, 9, 9, 9, 9, 9}, bytes = 9, fits = words == DULVASPEN_ARRIVING_WORDS, held = 1;
+    uint64_t state[24], head[6] = {9, 9, 9, 9, 9, 9}, bytes = 9, good = 9, fits = words == DULVASPEN_ARRIVING_WORDS, held = 1;
     for (int i = 0; i < 24; i++) state[i] = word;
     if (dulvaspen_arriving_take(state, words, (const uint8_t *)"\001", 1) != (fits ? 0 : 5)) return 0;
     if (dulvaspen_arriving_judge(state, words, head, fits ? 6 : 5) != (fits ? word ? 8u : 7u : 5u)) return 0;
     if (dulvaspen_arriving_head(state, words, head, fits ? 6 : 5, &bytes) != (fits ? word ? 8u : 7u : 5u)) return 0;
+    if (dulvaspen_arriving_good_bytes(state, words, &good) != (fits ? 0 : 5) || good != (fits ? !word : 9)) return 0;
     for (int i = 0; i < 6; i++) held &= head[i] == 9;
     for (int i = 0; i < 24; i++) held &= state[i] == word || (fits && !word && !i && state[0] == 1);
     if (!held || bytes != 9 || dulvaspen_arriving_start(state, words) != (fits ? 0 : 5)) return 0;

@@ -1,6 +1,6 @@
 #!/usr/bin/env python3
-"""The script that crates/share_runs runs and what it must write, worked out from document 01 (docs/SCHEME.md, 9 and 11) alone, without the store's
-code. From the root of the repository this makes both files again, crates/share_runs/stdin and stdout:
+"""The script that crates/share_runs runs and what it must write, worked out from documents 01 and 02 (docs/SCHEME.md, 9 and 11) alone, without the
+store's code. From the root of the repository this makes both files again, crates/share_runs/stdin and stdout:
 
     tools/share_model.py
 
@@ -10,7 +10,7 @@ import sys
 
 sys.dont_write_bytecode = True
 from script import NONE, Chooser, Script
-from shares import in_range, judge, share, share_size, total
+from shares import in_range, judge, share, share_size, swept, told, total
 
 SCRIPT = Script(600000)
 
@@ -64,32 +64,30 @@ def write(a, b, head):
     SCRIPT.line(21, "write", a, b, f"{named(head)} batch {head[5]}", f": {number} value {value}")
 
 
-def told(number, head):
-    return f": {number}" if number else ": 0 of {} {} {} {} {} {}".format(*head)
-
-
 def judged(a):
-    SCRIPT.line(23, "judge", a, NONE, "", told(*judge(SCRIPT.in_a(a))))
+    SCRIPT.line(23, "judge", a, NONE, "", ": " + told(judge(SCRIPT.in_a(a))))
 
 
 def read(a, b):
     data, out = SCRIPT.in_a(a), SCRIPT.in_b(b)
-    number, head = judge(data)
-    if not number and len(out) != total(*head[2:5]):
-        number = 6
-    if not number:
+    judgment = judge(data)
+    if not judgment[0] and len(out) != total(*judgment[1][2:5]):
+        judgment = 6, None
+    if not judgment[0]:
         SCRIPT.into_b(b, letters_of(list(data)))
-    SCRIPT.line(24, "read", a, b, "", told(number, head))
+    SCRIPT.line(24, "read", a, b, "", ": " + told(judgment))
 
 
 def sweep(b, at):
-    """A digit for each byte that could stand at an index."""
-    data = bytearray(SCRIPT.in_b(b))
-    found = []
-    for byte in range(256):
-        data[at] = byte
-        found.append(str(judge(data)[0]))
-    SCRIPT.line(25, "sweep", NONE, b, f" at {at}", ": " + "".join(found))
+    """What each byte that could stand at an index makes of the bytes."""
+    SCRIPT.line(25, "sweep", NONE, b, f" at {at}", ": " + swept(SCRIPT.in_b(b), at))
+
+
+def stand(a):
+    """How many bytes from the front can stand."""
+    data = SCRIPT.in_a(a)
+    number, what = judge(data)
+    SCRIPT.line(26, "stand", a, NONE, "", f": 0 value {what if number > 7 else len(data)}")
 
 
 # what is run
@@ -121,6 +119,7 @@ def desk():
     SCRIPT.heading("Its first bytes, from none to all, and one more")
     for count in range(83):
         judged((0, count))
+        stand((0, count))
     SCRIPT.heading("Each of its bytes as each other byte")
     for at in range(81):
         sweep((0, 81), at)
@@ -171,22 +170,64 @@ def outside():
             write((0, letters), (0, out), head)
 
 
+# T leaves 0, 1 and 63 over 64
+SMALL = [(3, 2, 2, 1, 32, 1), (6, 2, 5, 1, 13, 16909060), (4, 2, 3, 1, 21, 4294967295)]
+
+
 def sweeps():
-    SCRIPT.heading("A share of a full block and a last one, each kind of byte as each other byte")
-    count, whole = made((4, 2, 3, 1, 26, 258), 3)
-    blocks = [11, 12, 75, 76, 77, 90, 91, 140]
-    for at in list(range(11)) + blocks + list(range(whole - 5, whole)):
-        sweep((0, whole), at)
-    for at in (1, 4, 5, 6, 11, 76, 91):
-        sweep((0, 95), at)
-    SCRIPT.heading("A share of a full block alone")
-    count, whole = made((3, 2, 2, 1, 32, 1), 4)
-    for at in list(range(11)) + [11, 12, 75, 76, 77, 78, 79, 80]:
-        sweep((0, whole), at)
-    SCRIPT.heading("The beginning of a large one")
-    made((16, 15, 15, 16, 4096, 4294967295), 5)
-    for at in list(range(12)) + [76]:
-        sweep((0, 100), at)
+    for seed, head in enumerate(SMALL, 3):
+        SCRIPT.heading("A small share, each of its bytes as each other byte")
+        count, whole = made(head, seed)
+        for at in range(whole):
+            sweep((0, whole), at)
+        SCRIPT.heading("The same of one byte more, and at the last byte of each beginning where not any byte may stand")
+        for at in (0, 6, whole - 1, whole):
+            sweep((0, whole + 1), at)
+        for at in (0, 1, 2, 3, 4, 5, 6, 11, 76, whole - 5, whole - 4, whole - 1):
+            sweep((0, at + 1), at)
+    SCRIPT.heading("The beginning of a share of several blocks, and of the largest")
+    for head, length in (((4, 2, 3, 1, 26, 258), 95), ((16, 15, 15, 16, 4096, 4294967295), 100)):
+        made(head, 5)
+        for at in [*range(12), 76, 91]:
+            sweep((0, length), at)
+
+
+def changed(edits, whole, room):
+    """Some bytes of the share in A changed for a while: judged and read, also with no room that fits; and cut before and after the first wrong one."""
+    own = list(SCRIPT.a)
+    for at, byte in edits:
+        SCRIPT.put((at, 1), NONE, [byte])
+    judged((0, whole))
+    stand((0, whole))
+    number, place = judge(SCRIPT.in_a((0, whole)))
+    if number > 7:
+        judged((0, place))
+        judged((0, place + 1))
+    for letters in (room, room + 1):
+        read((0, whole), (1000, letters))
+    for at, _ in edits:
+        SCRIPT.put((at, 1), NONE, [own[at]])
+
+
+def places():
+    for head in SMALL + [(16, 3, 5, 7, 256, 9)]:
+        SCRIPT.heading("Where the first wrong byte is: L found at its second byte, k too large, d below it, node too large, and several wrong")
+        count, whole = made(head, 21)
+        n, k, d, node = head[:4]
+        for edits in ([(5, 0), (6, 0)], [(5, 1), (6, 16)], [(5, 0), (6, 16)], [(5, 0), (6, 1)], [(2, n)], [(2, n - 1), (3, n - 2)], [(3, k - 1)], [(3, n)],
+                      [(4, n + 1)], [(4, 0), (0, 2)], [(1, 17), (2, 17)], [(1, 2)], [(6, 255), (11, 9)]):
+            changed(edits, whole, count)
+        SCRIPT.heading("A last block or an end in the place of the other, fill, the total at each of its bytes, and whatever comes after the end")
+        last = whole - 70
+        fill = [(at, 1) for at in range(last + 1 + (count % 64 or 64), whole - 5)]
+        fills = [fill[:1], fill[-1:], fill[:1] + [(whole - 5, 9)]] if fill else []
+        totals = [[(at, SCRIPT.a[at] ^ 128)] for at in range(whole - 4, whole)]
+        for edits in ([(whole - 5, 3)], [(whole - 5, 2)], [(last, 4)], [(last, 5 - SCRIPT.a[last])], *fills, *totals,
+                      [(whole - 3, 1), (whole - 1, 1)], [(whole - 5, 0), (whole - 4, 0)]):
+            changed(edits, whole, count)
+        for byte in (0, 1, 3, 4, 255):
+            changed([(whole, byte)], whole + 1, count)
+        changed([(whole, 1), (whole + 1, 3)], whole + 20, count)
 
 
 def damaged(chooser, whole):
@@ -213,6 +254,7 @@ def damages():
         for _ in range(8):
             at, own = damaged(chooser, whole)
             judged((0, whole))
+            stand((0, whole))
             judged((0, chooser.within(at, whole)))
             SCRIPT.put((at, 1), NONE, [own])
         for _ in range(2):
@@ -245,6 +287,7 @@ def main():
     limits()
     outside()
     sweeps()
+    places()
     damages()
     heads()
     SCRIPT.write("share_runs")

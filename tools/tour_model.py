@@ -1,10 +1,15 @@
 #!/usr/bin/env python3
-"""What the program `tour` says, from document 01's sums alone (docs/SCHEME.md, 4, 7, 8 and 9; no code is shared with the store):
+"""What the program `tour` says, from document 01's sums alone (docs/SCHEME.md, 4, 7, 8 and 9; no code is shared with the store), tools/shares.py for the judge:
 
     tools/tour_model.py > crates/tour/stdout
 
 The two lines that compare letters are what the document promises: a repair and a recovery leave exactly what was lost.
 """
+import sys
+
+sys.dont_write_bytecode = True
+from shares import judge, short
+
 N, K, D, L = 6, 3, 4, 16
 
 
@@ -30,7 +35,7 @@ for node in range(1, N + 1):
     letters = D * (L + t(node, D))
     print(f"  disk {node}: {letters} letters in a share of {11 + -(-letters // 64) * 65 + 5} bytes, judged complete")
 print("Disk 5 fills up: its share has 145 of 146 bytes, judged unfinished, so it is never read as whole.")
-print("Disks 2 and 5 are lost: zeros in their place are judged malformed.")
+print(f"Disks 2 and 5 are lost: zeros in their place are judged malformed {short(judge([0] * 146))}.")
 piece = L + t(2, D)
 print(f"Disk 2 is rebuilt from disks 6, 4, 3 and 1: they send {D * piece} letters, where the whole batch has {batch}; "
       f"letter additions: {solving([6, 4, 3, 1], D, piece)}.")

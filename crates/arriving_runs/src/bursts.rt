@@ -13,17 +13,32 @@ fn next_size(size: usize, left: usize) -> usize
     if size < left { size } else { left }
 }
 
-// All bytes from the start, in bursts of a size, with an empty one after each: a digit for the judgment after each, and the state at the end.
-pub fn of_size(bytes: &[u8], size: usize) -> Arriving {
+// All bytes from the start, in bursts of a size, with an empty one after each: where it is told, a digit for the judgment after each. The answer is
+// the state at the end.
+pub fn of_size(bytes: &[u8], size: usize, told: bool) -> Arriving {
     let mut state = Arriving::start();
     let mut at = 0;
     while at < bytes.len() {
         let count = next_size(size, bytes.len() - at);
         state = lending::taken(state, lines::part(bytes, at, count));
-        arriving_words::digit(state);
+        if told {
+            judged_words::digit(state.judge());
+        }
         state = state.after(lines::part(bytes, 0, 0));
         at += count;
     }
+    state
+}
+
+// The same with another byte at an index. Its own is put back.
+pub fn with_byte(bytes: &mut [u8], at: usize, byte: u8, size: usize) -> Arriving {
+    if bytes.len() <= at {
+        return Arriving::start();
+    }
+    let own = bytes[at];
+    bytes[at] = byte;
+    let state = of_size(bytes, size, false);
+    bytes[at] = own;
     state
 }
 
@@ -31,7 +46,7 @@ pub fn of_size(bytes: &[u8], size: usize) -> Arriving {
 // isn't `whole`.
 fn cut_at(bytes: &[u8], cut: usize, left: usize, whole: Arriving) {
     let first = Arriving::start().after(lines::part(bytes, 0, cut));
-    arriving_words::digit(first);
+    judged_words::digit(first.judge());
     let both = lending::taken(first, lines::part(bytes, cut, left));
     if !arriving_words::same(both, whole) {
         lines::say(b"!");
@@ -47,14 +62,4 @@ pub fn cuts(bytes: &[u8]) -> Arriving {
         cut += 1;
     }
     whole
-}
-
-// Each of the 256 bytes as the next one after a state: a digit for each. The answer is the state before them.
-pub fn sweep(state: Arriving) -> Arriving {
-    let mut byte: usize = 0;
-    while byte < 256 {
-        arriving_words::digit(state.after(&[byte as u8]));
-        byte += 1;
-    }
-    state
 }

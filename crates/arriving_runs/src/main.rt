@@ -1,6 +1,7 @@
 // Hands bytes to the reader of bursts (`arriving`) as the script on standard input says, and writes each line again with what comes of it.
-// tools/arriving_model.py makes the script and what must be written, from document 01 (docs/SCHEME.md, 9) alone.
+// tools/arriving_model.py makes the script and what must be written, from documents 01 and 02 (docs/SCHEME.md, 9 and 11) alone.
 mod bursts;
+mod sweeps;
 mod turn;
 
 use arriving::Arriving;
@@ -18,7 +19,7 @@ fn main() {
     let mut at = 0;
     while at < text.len() {
         let line = script::next(text, at, &mut found, &mut a, &mut b);
-        state = turn::call(line, state, &a, &b);
+        state = turn::call(line, state, &mut a, &b);
         at = line.next;
     }
 }

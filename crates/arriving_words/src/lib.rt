@@ -3,7 +3,6 @@ mod telling;
 mod words;
 
 pub use telling::answers;
-pub use telling::digit;
 pub use telling::state;
 pub use words::same;
 pub use words::with;

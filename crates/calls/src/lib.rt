@@ -46,28 +46,6 @@ pub fn judged(bytes: &[u8]) -> Answer {
     match share::judge(bytes) {
         Judgment::Complete(_) => Answer::Value(0),
         Judgment::Refused(refusal) => Answer::Refused(refusal),
+        Judgment::Malformed(refusal, _) => Answer::Refused(refusal),
     }
-}
-
-// Judges a share with another byte at an index, and puts its own back. The answer is the number of what is found, as a digit.
-fn judged_with(share: &mut [u8], at: usize, byte: u8) -> u8 {
-    if share.len() <= at {
-        return b'-';
-    }
-    let own = share[at];
-    share[at] = byte;
-    let number = group::answer_number(judged(share));
-    share[at] = own;
-    (48 + number % 10) as u8
-}
-
-// A digit for each of the 256 bytes that could stand at an index.
-pub fn sweep(share: &mut [u8], at: usize) -> [u8; 256] {
-    let mut digits = [0u8; 256];
-    let mut byte: usize = 0;
-    while byte < 256 {
-        digits[byte] = judged_with(share, at, byte as u8);
-        byte += 1;
-    }
-    digits
 }

@@ -1,7 +1,7 @@
 // The night desk: document 01's examples P1 to P12 (docs/SCHEME.md, 12), run through the public calls. The text below has them as they are
 // written. `<` stands before a letter that is handed in, `>` before one that must come out (`>` alone: a zero that isn't shown), `=` before the
-// count, the refusal or the number of bytes that must come out, `@` before an id, a rank, or a number of bytes that is handed in. Each line is run and
-// compared, and the last one says how many agree.
+// count, the refusal and its place, or the number of bytes that must come out, `@` before an id, a rank, or a number of bytes that is handed in.
+// Each line is run and compared, and the last one says how many agree.
 mod turn;
 
 // Runs the lines one after another, on one memory: what a line leaves there is still there for the next. From P8 on, L is 1.
@@ -15,7 +15,8 @@ fn run(text: &[u8]) {
         let before = memory;
         let made = lines::part_mut(&mut memory, 0, lines::count(line, b'>'));
         let answer = turn::call(line, 2 - n / 9, &before, made);
-        agreed = marks::compare(agreed, line, lines::outcome(answer), &memory);
+        let place = turn::place(line, &before);
+        agreed = marks::compare(agreed, line, lines::outcome(answer), place, &memory);
         n += 1;
     }
     marks::tell(text, n, agreed, agreed / 16, 0, 0);
@@ -37,7 +38,7 @@ P9 file <01 <10 <40, L 1, node @1: >11 >50
 P9 packets <11 <50, node @1, batch 7: >01 >03 >02 >02 >01 >01 >00 >07 >00 >00 >00, then >03 >11 >50 and 62 zeros>>>>>>>>>>>>>>>>>>>>>>>>>>>>>>>>>>>>>>>>>>>>>>>>>>>>>>>>>>>>>>, then >04 >02 >00 >00 >00; =81 bytes
 P9 its @81 bytes: refusal =0
 P10 its first @80 bytes: refusal =7
-P11 with one byte more, @82 bytes: refusal =8
+P11 with one byte more, @82 bytes: refusal =12 at =81
 P12 no bytes, @0 of them: refusal =7
 # of 16 lines of the examples agree: {NOT all|all}
 ",

@@ -39,3 +39,11 @@ pub fn call(line: &[u8], l: usize, memory: &[u8], made: &mut [u8]) -> Answer {
     let g = group::of(3, 2, 2, l);
     calls::of_store(operation, g, first(operation, a), a, b, &[a, b], from, made)
 }
+
+// The index of the first byte that can't stand, where a line judges bytes; else 0.
+pub fn place(line: &[u8], memory: &[u8]) -> usize {
+    if operation(lines::byte(line, 3)) == 23 {
+        return judged_words::place(share::judge(marks::handed(line, memory)));
+    }
+    0
+}

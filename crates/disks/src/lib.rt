@@ -17,12 +17,31 @@ pub fn bytes(node: usize) -> usize {
     lines::value(share::share_bytes(six(), node))
 }
 
-// What the first bytes on a node's disk are judged to be: 0 for a share, or the refusal's number.
-pub fn judge(node: usize, bytes: usize, disks: &[u8]) -> usize {
-    match share::judge(lines::part(disks, node % 7 * 146, bytes)) {
+// What bytes are judged to be: for a text, 0 complete, 1 unfinished, 2 malformed, and then the number and the place.
+pub struct Judged {
+    pub choice: usize,
+    pub number: usize,
+    pub place: usize,
+}
+
+// What the first bytes on a node's disk are judged to be.
+pub fn judge(node: usize, bytes: usize, disks: &[u8]) -> Judged {
+    let judgment = share::judge(lines::part(disks, node % 7 * 146, bytes));
+    let choice = match judgment {
         Judgment::Complete(_) => 0,
-        Judgment::Refused(refusal) => group::refusal_number(refusal),
+        Judgment::Refused(_) => 1,
+        Judgment::Malformed(_, _) => 2,
+    };
+    Judged {
+        choice,
+        number: judged_words::number(judgment),
+        place: judged_words::place(judgment),
     }
+}
+
+// Tells line n of a text, which is about a judgment.
+pub fn tell_judged(text: &[u8], n: usize, judged: Judged) {
+    marks::tell(text, n, judged.choice, judged.number, judged.place, 0);
 }
 
 // Writes a node's packets to its disk.
@@ -76,8 +95,8 @@ pub fn show(text: &[u8], disks: &[u8]) {
     while node < 7 {
         let count = bytes(node);
         let judged = judge(node, count, disks);
-        marks::tell(text, 1, node, letters(node), count, judged);
+        marks::tell(text, 1, node, letters(node), count, judged.choice);
         node += 1;
     }
-    marks::tell(text, 2, judge(5, 145, disks), 0, 0, 0);
+    tell_judged(text, 2, judge(5, 145, disks));
 }

@@ -104,7 +104,7 @@ fn next(place: usize, first: usize, second: usize, third: usize, fourth: usize) 
     }
 }
 
-// Writes a line with the four numbers, as far as it has places for them. A choice has no places in it.
+// Writes a line with the four numbers, as far as it has places for them. A place in a choice has its number whether it is picked or not.
 fn say(line: &[u8], first: usize, second: usize, third: usize, fourth: usize) {
     let mut place: usize = 0;
     let mut away: usize = 0;
@@ -118,7 +118,9 @@ fn say(line: &[u8], first: usize, second: usize, third: usize, fourth: usize) {
         let number = next(place, first, second, third, fourth);
         match mark {
             b'#' => {
-                lines::decimal(number);
+                if away == 0 {
+                    lines::decimal(number);
+                }
                 place = place % 4 + 1;
             }
             b'{' => {
@@ -138,19 +140,20 @@ pub fn tell(text: &[u8], n: usize, first: usize, second: usize, third: usize, fo
     say(lines::line(text, n), first, second, third, fourth);
 }
 
-// Writes a line, in which `=` stands before a number and `>` before letters that must come out, and compares; where they don't agree it says
-// what came out. The answer is how many lines agree, this one included, after `count` before it.
-pub fn compare(count: usize, line: &[u8], number: usize, letters: &[u8]) -> usize {
+// Writes a line, in which `=` stands before a number, a second one before its place, and `>` before letters that must come out, and compares; where
+// they don't agree it says what came out. The answer is how many lines agree, this one included, after `count` before it.
+pub fn compare(count: usize, line: &[u8], number: usize, place: usize, letters: &[u8]) -> usize {
     say(line, 0, 0, 0, 0);
     let mut wanted = [0u8; 96];
     let made = read(line, b'>', &mut wanted);
     let came = lines::part(letters, 0, made);
-    if number == self::number(line, b'=', 0) {
+    if number == self::number(line, b'=', 0) && place == self::number(line, b'=', 1) {
         if lines::same(came, lines::part(&wanted, 0, made)) {
             return count % 1000 + 1;
         }
     }
     lines::number(b"  NOT so: what comes out is ", number);
+    lines::number(b" at ", place);
     lines::letters(b" and", came);
     lines::say(b"\n");
     count

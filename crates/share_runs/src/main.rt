@@ -1,5 +1,6 @@
 // Runs the share's calls as the script on standard input says, and writes each line again with what comes back. tools/share_model.py makes
-// the script and what must be written, from document 01 (docs/SCHEME.md, 9) alone.
+// the script and what must be written, from documents 01 and 02 (docs/SCHEME.md, 9 and 11) alone.
+mod sweep;
 mod turn;
 
 use libc::STDIN_FILENO;

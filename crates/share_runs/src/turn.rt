@@ -1,29 +1,17 @@
 // The call of a line.
+use crate::sweep;
+use group::Answer;
 use script_line::Line;
 use share::Judgment;
 
-// A judgment: its number in the table of document 01 (docs/SCHEME.md, 11), 0 for a share, and the share's head: n, k, d, node, L, batch.
+// A judgment.
 fn judgment(judgment: Judgment) {
-    match judgment {
-        Judgment::Complete(head) => {
-            let g = head.group;
-            script::numbers(
-                b": 0 of",
-                &[g.n, g.k, g.d, head.node, g.l, head.batch as usize],
-            );
-        }
-        Judgment::Refused(refusal) => lines::number(b": ", group::refusal_number(refusal)),
-    }
-}
-
-// What a sweep found.
-fn swept(digits: &[u8]) {
     lines::say(b": ");
-    lines::say(digits);
+    judged_words::tell(judgment);
 }
 
-// 21 writes a share with a batch number, and 22 tells how long it is: they are handed a group and a node. 23 judges, 24 reads, and 25 judges
-// what is in B with every byte at an index.
+// 21 writes a share with a batch number, and 22 tells how long it is: they are handed a group and a node. 23 judges, 24 reads, 25 judges
+// what is in B with every byte at an index, and 26 tells how many bytes can stand.
 fn done(line: Line, from: &[u8], into: &mut [u8]) {
     let operation = line.operation;
     match operation {
@@ -34,7 +22,8 @@ fn done(line: Line, from: &[u8], into: &mut [u8]) {
         22 => script::answer(share::share_bytes(line.group, line.first)),
         23 => judgment(share::judge(from)),
         24 => judgment(share::read(from, into)),
-        _ => swept(&calls::sweep(into, line.own)),
+        25 => sweep::every_byte(into, line.own),
+        _ => script::answer(Answer::Value(share::good_bytes(from))),
     }
 }
 

@@ -42,6 +42,12 @@ slice-aggregate-call c = search needs
 call-requires : tie.Need-call-requires Inv-loop μ-loop
 call-requires c κs = search needs
 
+slice-aggregate-place : tie.Need-slice-aggregate-place Inv-loop μ-loop
+slice-aggregate-place c = search needs
+
+place-requires : tie.Need-place-requires Inv-loop μ-loop
+place-requires c κs = search needs
+
 outcome-requires : tie.Need-outcome-requires Inv-loop μ-loop
 outcome-requires c κs = search needs
 
@@ -82,6 +88,8 @@ run-spec =
     sub-call
     slice-aggregate-call
     call-requires
+    slice-aggregate-place
+    place-requires
     outcome-requires
     slice-aggregate-compare
     compare-requires

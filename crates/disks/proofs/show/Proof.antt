@@ -40,8 +40,8 @@ loop-again c = search needs
 judge-requires-2 : tie.Need-judge-requires-2 Inv-loop μ-loop
 judge-requires-2 c κs = search needs
 
-tell-requires-3 : tie.Need-tell-requires-3 Inv-loop μ-loop
-tell-requires-3 c κs = search needs
+tell-judged-requires : tie.Need-tell-judged-requires Inv-loop μ-loop
+tell-judged-requires c κs = search needs
 
 returns : tie.Need-returns Inv-loop μ-loop
 returns c = search needs
@@ -62,5 +62,5 @@ show-spec =
     loop-less
     loop-again
     judge-requires-2
-    tell-requires-3
+    tell-judged-requires
     returns)

@@ -6,10 +6,10 @@ use Rattle.arriving_runs.proofs.bursts.of_size.Statement.{statement}
 use Rattle.arriving_runs.proofs.bursts.of_size.Tie as tie
 
 abbrev Inv-loop : tie.InvT-loop
-Inv-loop bytes size state₀ at₀ state at = at ≤ length bytes
+Inv-loop bytes size told state₀ at₀ state at = at ≤ length bytes
 
 abbrev μ-loop : tie.MeasureT-loop
-μ-loop bytes size state₀ at₀ state at = length bytes - at
+μ-loop bytes size told state₀ at₀ state at = length bytes - at
 
 start-requires : tie.Need-start-requires Inv-loop μ-loop
 start-requires c κs = search needs
@@ -28,6 +28,9 @@ part-requires c κs = search needs
 
 taken-requires : tie.Need-taken-requires Inv-loop μ-loop
 taken-requires c κs = search needs
+
+judge-requires : tie.Need-judge-requires Inv-loop μ-loop
+judge-requires c κs = search needs
 
 digit-requires : tie.Need-digit-requires Inv-loop μ-loop
 digit-requires c κs = search needs
@@ -62,6 +65,7 @@ of-size-spec =
     next-size-requires
     part-requires
     taken-requires
+    judge-requires
     digit-requires
     part-requires-2
     after-requires
