@@ -1,6 +1,5 @@
 // Hands bytes to the reader of bursts (`arriving`) as the script on standard input says, and writes each line again with what comes of it.
 // tools/arriving_model.py makes the script and what must be written, from documents 01 and 02 (docs/SCHEME.md, 9 and 11) alone.
-mod bursts;
 mod sweeps;
 mod turn;
 

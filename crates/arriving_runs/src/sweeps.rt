@@ -1,6 +1,6 @@
 // One number after the other below 256 tried on a state or on bytes, and told in runs of what is found.
-use crate::bursts;
 use arriving::Arriving;
+use arriving_words::bursts;
 use judged_words::Run;
 use script_line::Line;
 

@@ -1,7 +1,7 @@
 // What a line does with the state.
-use crate::bursts;
 use crate::sweeps;
 use arriving::Arriving;
+use arriving_words::bursts;
 use script_line::Line;
 
 // The state with another word: the line has the word's number, and the upper and the lower half of what it shall be, since no number of a

@@ -1,4 +1,5 @@
-// The state of the reader of bursts for its test program: its words, and what is written of it.
+// The reader of bursts for its test program: bytes handed over in bursts, the words of its state, and what is written of it.
+pub mod bursts;
 mod telling;
 mod words;
 

@@ -1,5 +1,7 @@
-// How far a share is that is coming in, as a text for people: whose it is, and how many of how many bytes are in.
+// What is said to people of a share that is coming in: whose it is, and how many of how many bytes are in; or which byte can't stand, and what would
+// stand there.
 use group::Group;
+use group::Refusal;
 use heads::Head;
 ghost use mathlib.Core.Path.{_≡_};
 ghost use Prim.Native.Nat.{_≤_};
@@ -52,4 +54,27 @@ pub fn line(head: Head, part: usize, whole: usize, line: &mut [u8; 256]) -> usiz
 {
     let far = put_head(head, line);
     put_far(part, whole, far, line)
+}
+
+// Puts what would stand where a byte can't.
+fn put_part(refusal: Refusal, at: usize, line: &mut [u8]) -> usize
+    requires { ⌜ (length (now line) ≡ 256) × (at ≤ 64) ⌝ }
+    ensures { λ r. ⌜ r ≤ 128 ⌝ }
+{
+    match refusal {
+        Refusal::Kind => text::put(line, at, b"the kind of a record"),
+        Refusal::HeadNumber => text::put(line, at, b"a number of the head"),
+        Refusal::Filler => text::put(line, at, b"a zero that fills the last block"),
+        Refusal::Total => text::put(line, at, b"the total"),
+        _ => text::put(line, at, b"nothing comes after the end"),
+    }
+}
+
+// Puts which byte can't stand, and what would stand there, in the same way: `the byte at index 4 can't stand there: a number of the head`.
+pub fn wrong(refusal: Refusal, place: usize, line: &mut [u8; 256]) -> usize
+    ensures { λ r. ⌜ Counts r (now (line .exit)) ⌝ }
+{
+    let index = text::put_number(line, 0, b"the byte at index ", place);
+    let there = text::put(line, index, b" can't stand there: ");
+    put_part(refusal, there, line)
 }

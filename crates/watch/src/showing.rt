@@ -17,22 +17,11 @@ fn write_share(head: Head, part: usize, whole: usize) {
     say(&line[..count]);
 }
 
-// Writes a line with a number in it.
-fn write_note(words: &[u8], number: usize, rest: &[u8]) {
-    say(words);
-    io::print_decimal(STDERR_FILENO, number as u64);
-    say(rest);
-}
-
-// Writes what would stand where a byte can't, and ends the line.
-fn write_part(refusal: Refusal) {
-    match refusal {
-        Refusal::Kind => say(b"the kind of a record\n"),
-        Refusal::HeadNumber => say(b"a number of the head\n"),
-        Refusal::Filler => say(b"a zero that fills the last block\n"),
-        Refusal::Total => say(b"the total\n"),
-        _ => say(b"nothing comes after the end\n"),
-    }
+// Writes which byte can't stand, with no end of the line.
+fn write_wrong(refusal: Refusal, at: usize) {
+    let mut line = [0u8; 256];
+    let count = progress::wrong(refusal, at, &mut line);
+    say(&line[..count]);
 }
 
 // Leaves the line in which a share was shown, if its head was in.
@@ -62,12 +51,12 @@ pub fn end(state: Arriving, moving: bool) {
             if !moving {
                 write_share(head, state.at, whole);
             }
-            say(b"\n");
         }
-        Coming::Refused(_) => write_note(b"no head yet, bytes so far: ", state.at, b"\n"),
-        Coming::Malformed(refusal, at) => {
-            write_note(b"the byte at index ", at, b" can't stand there: ");
-            write_part(refusal);
+        Coming::Refused(_) => {
+            say(b"no head yet, bytes so far: ");
+            io::print_decimal(STDERR_FILENO, state.at as u64);
         }
+        Coming::Malformed(refusal, at) => write_wrong(refusal, at),
     }
+    say(b"\n");
 }

@@ -1,5 +1,6 @@
 // Bytes handed over in bursts of any lengths, some to `after` and some, through `lending`, to `take`, which must do the same.
 ghost use Prim.Native.Nat.{_≤_, _<_};
+use crate::words;
 use arriving::Arriving;
 
 // How many bytes the next burst has: `size`, or as many as are left; one where the size is 0.
@@ -48,7 +49,7 @@ fn cut_at(bytes: &[u8], cut: usize, left: usize, whole: Arriving) {
     let first = Arriving::start().after(lines::part(bytes, 0, cut));
     judged_words::digit(first.judge());
     let both = lending::taken(first, lines::part(bytes, cut, left));
-    if !arriving_words::same(both, whole) {
+    if !words::same(both, whole) {
         lines::say(b"!");
     }
 }
