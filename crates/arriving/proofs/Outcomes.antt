@@ -12,8 +12,8 @@ use Rattle.group.specs.Answers.{Outcome}
 use Rattle.group.proofs.Outcomes.{named, named-number}
 use Rattle.records.specs.Records.{sizeFor}
 use Rattle.layout.specs.Share.{ShareOf}
-use Rattle.layout.specs.Judgment.{IsNeither, CanStand}
-use Rattle.layout.proofs.Judgments.{not-both, stands-either, offends-neither}
+use Rattle.layout.specs.Judgment.{CanStand}
+use Rattle.layout.proofs.Judgments.{not-both, offends-not-stand}
 use Rattle.heads.specs.declared.Head.{Head}
 use Rattle.heads.specs.Kind1.{kind1Size}
 use Rattle.heads.specs.Heads.{heads}
@@ -29,7 +29,7 @@ use Rattle.arriving.specs.States.{headSoFar, stateOf, Leads}
 use Rattle.arriving.specs.Calls.{Takes, JudgesState, GoodBytesOf, comingOf, Announces}
 use Rattle.arriving.proofs.BytesBehind.{Behind}
 use Rattle.arriving.proofs.Led.{led-right}
-use Rattle.arriving.proofs.Telling.{of-bytes, stands-to, wrong-neither, share-told}
+use Rattle.arriving.proofs.Telling.{of-bytes, stands-to, none-wrong, share-told}
 
 -- `reached`
 pub reached-once : (s : Arriving) (r r′ : Bool) → (r ≡ true) ↔ Leads s → (r′ ≡ true) ↔ Leads s → r ≡ r′
@@ -115,16 +115,11 @@ module _ (s : Arriving) where
   good-once (GoodBytesOf.forged none) (GoodBytesOf.forged none′) = refl
 
   -- `coming`: bytes that can stand are those of a state with no wrong byte,
-  clash : (xs : List ℕ) → Bytes xs → CanStand heads xs → IsNeither heads xs → ⊥
-  clash xs bytes stand bad = ⊎-elim (bad .0) (bad .1) (stands-either heads lawful xs bytes stand)
-
   behind : (xs : List ℕ) → Bytes xs → stateOf xs ≡ s → CanStand heads xs → Behind xs (headSoFar s) (s .at)
-  behind xs bytes e stand =
-      ⊎-elim (λ none. led-right xs bytes s e none .behind) (λ some. absurd (clash xs bytes stand (wrong-neither xs bytes s e some))) (eq-or-ne (s .wrong) 0)
+  behind xs bytes e stand = led-right xs bytes s e (none-wrong xs bytes s e stand) .behind
 
   not-wrong : {n q : ℕ} (xs : List ℕ) → Bytes xs → stateOf xs ≡ s → CanStand heads xs → JudgesState s (Outcome.wrong n q) → ⊥
-  not-wrong {q = q} xs bytes e stand j =
-      clash xs bytes stand (offends-neither heads lawful xs q (found-wrong (judged-as-bytes j xs bytes e) .2 .offends))
+  not-wrong {q = q} xs bytes e stand j = offends-not-stand heads lawful xs q (found-wrong (judged-as-bytes j xs bytes e) .2 .offends) stand
 
   -- and their numbers tell the share that is coming
   known :

@@ -1,7 +1,7 @@
 -- What is told from a state is what the bytes are that lead there.
 use mathlib.Core.Path.{_≡_, refl, sym, ap, subst, _∙_}
 use mathlib.Core.List.{List, [], _∷_, _++_}
-use mathlib.Core.Logic.{⊎-elim}
+use mathlib.Core.Logic.{inl, inr, ⊎-elim}
 use Prim.Native.Nat.{ℕ, _+_, _≤_, _<_}
 use native.Mathlib.Omega.{arith}
 use lib.ListN.{length, take, List·getD-append}
@@ -16,9 +16,9 @@ use Rattle.group.specs.Answers.{refusalNumber, Outcome}
 use Rattle.records.specs.Records.{sizeFor}
 use Rattle.layout.specs.Layout.{totalIn}
 use Rattle.layout.specs.Share.{ShareOf}
-use Rattle.layout.specs.Judgment.{IsNeither}
+use Rattle.layout.specs.Judgment.{CanStand}
 use Rattle.layout.proofs.Completing.{can-stand}
-use Rattle.layout.proofs.Judgments.{share-head, share-size, offends-neither}
+use Rattle.layout.proofs.Judgments.{share-head, share-size, either-stands, offends-not-stand}
 use Rattle.heads.specs.declared.Head.{Head}
 use Rattle.heads.specs.Kind1.{kind1Size}
 use Rattle.heads.specs.Heads.{heads}
@@ -69,11 +69,12 @@ stands-to xs bytes s e =
 pub state-stands : (s : Arriving) → Leads s → GoodBytesOf s (s .at)
 state-stands s leads = GoodBytesOf.led (leads .0) (leads .1) (leads .2) (s .at) (stands-to (leads .0) (leads .1) s (leads .2))
 
--- bytes that are neither a share nor the beginning of one are where a byte is wrong
-pub wrong-neither : (xs : List ℕ) → Bytes xs → (s : Arriving) → stateOf xs ≡ s → (s .wrong ≡ 0 → ⊥) → IsNeither heads xs
-wrong-neither xs bytes s e some =
-    let w = led-wrong xs bytes s e some in
-    offends-neither heads lawful xs (s .at) (stands-to xs bytes s e .next (w .past))
+-- where these can stand, no byte is wrong
+pub none-wrong : (xs : List ℕ) → Bytes xs → (s : Arriving) → stateOf xs ≡ s → CanStand heads xs → s .wrong ≡ 0
+none-wrong xs bytes s e stand =
+    ⊎-elim (λ none. none)
+    (λ some. absurd (offends-not-stand heads lawful xs (s .at) (stands-to xs bytes s e .next (led-wrong xs bytes s e some .past)) stand))
+    (eq-or-ne (s .wrong) 0)
 
 -- A state that isn't judged malformed, but as one of the first two cases, is that of bytes that all stand.
 module _ (s : Arriving) where
@@ -83,13 +84,10 @@ module _ (s : Arriving) where
   not-third : OneOf (0 ∷ 1 ∷ []) 2 → ⊥
   not-third o = ⊎-elim (λ e. omega arith) (λ e. omega arith) o
 
-  none-wrong : (xs : List ℕ) → Bytes xs → stateOf xs ≡ s → (IsNeither heads xs → ⊥) → s .wrong ≡ 0
-  none-wrong xs bytes e stands = ⊎-elim (λ none. none) (λ some. absurd (stands (wrong-neither xs bytes s e some))) (eq-or-ne (s .wrong) 0)
-
   pub judged-fine : (r : Judgment) → JudgesState s (outcomeOf r) → Fine r → Leads s × (s .wrong ≡ 0)
   judged-fine (Judgment.Complete h) (JudgesState.led xs bytes e _ j) fine =
-      ((xs, bytes, e), none-wrong xs bytes e (λ n. let w = found-share j in n .0 (h, w .0, w .1)))
-  judged-fine (Judgment.Refused r) (JudgesState.led xs bytes e _ j) fine = ((xs, bytes, e), none-wrong xs bytes e (λ n. n .1 (found-beginning j .1)))
+      ((xs, bytes, e), none-wrong xs bytes s e (either-stands heads lawful xs (let w = found-share j in inl (h, w .0, w .1))))
+  judged-fine (Judgment.Refused r) (JudgesState.led xs bytes e _ j) fine = ((xs, bytes, e), none-wrong xs bytes s e (either-stands heads lawful xs (inr (found-beginning j .1))))
   judged-fine (Judgment.Malformed r q) j fine = absurd (not-third fine)
 
 -- a share that begins with bytes whose head is in has this head, and as many bytes as it says

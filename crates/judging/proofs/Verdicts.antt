@@ -94,11 +94,7 @@ stops-at xs bytes q w =
     }
 
 pub stops-once : (xs : List ℕ) (q q′ : ℕ) → Stops xs q → Stops xs q′ → q ≡ q′
-stops-once xs q q′ s s′ =
-    ⊎-elim
-    (λ le. ⊎-elim (λ ge. omega arith) (λ lt. absurd (two q q′ s s′ lt)) (le-or-lt q′ q))
-    (λ lt. absurd (two q′ q s′ s lt))
-    (le-or-lt q q′)
+stops-once xs q q′ s s′ = omega (arith, two q q′ s s′, two q′ q s′ s)
   where
     two : (q q′ : ℕ) → Stops xs q → Stops xs q′ → q < q′ → ⊥
     two q q′ s s′ lt = not-both (stands heads xs q) (s′ .before q lt) (s .wrong (omega (arith, s′ .within)))

@@ -46,6 +46,18 @@ module _ (after first in-head in-blocks : Bool) (no : after ≡ false) where
 
 -- so those of the code
 module _ (front letters q : ℕ) where
+  abbrev after : Bool
+  after = leb (sizeFor front letters) q
+
+  abbrev first : Bool
+  first = eqb (offsetAt front q) 0
+
+  abbrev in-head : Bool
+  in-head = ltb q front
+
+  abbrev in-blocks : Bool
+  in-blocks = ltb q (front + blocks letters * blockSize)
+
   pub at-after : sizeFor front letters ≤ q → refusalAt front letters q ≡ AfterEnd
   unfolding refusalAt
   at-after h = simp (le-leb (sizeFor front letters) q h)
@@ -53,22 +65,22 @@ module _ (front letters q : ℕ) where
   module _ (within : q < sizeFor front letters) where
     pub at-kind : offsetAt front q ≡ 0 → refusalAt front letters q ≡ Kind
     unfolding refusalAt
-    at-kind e = kind (leb (sizeFor front letters) q) (eqb (offsetAt front q) 0) (ltb q front) (ltb q (front + blocks letters * blockSize)) (lt-leb (sizeFor front letters) q within) (eq-eqb (offsetAt front q) 0 e)
+    at-kind e = kind after first in-head in-blocks (lt-leb (sizeFor front letters) q within) (eq-eqb (offsetAt front q) 0 e)
 
     module _ (some : offsetAt front q ≡ 0 → ⊥) where
       pub at-number : q < front → refusalAt front letters q ≡ HeadNumber
       unfolding refusalAt
-      at-number h = number (leb (sizeFor front letters) q) (eqb (offsetAt front q) 0) (ltb q front) (ltb q (front + blocks letters * blockSize)) (lt-leb (sizeFor front letters) q within) (ne-eqb (offsetAt front q) 0 some) (lt-ltb q front h)
+      at-number h = number after first in-head in-blocks (lt-leb (sizeFor front letters) q within) (ne-eqb (offsetAt front q) 0 some) (lt-ltb q front h)
 
       pub at-filler : front ≤ q → q < front + blocks letters * blockSize → refusalAt front letters q ≡ Filler
       unfolding refusalAt
       at-filler h l =
-          fill (leb (sizeFor front letters) q) (eqb (offsetAt front q) 0) (ltb q front) (ltb q (front + blocks letters * blockSize)) (lt-leb (sizeFor front letters) q within) (ne-eqb (offsetAt front q) 0 some) (le-ltb q front h) (lt-ltb q (front + blocks letters * blockSize) l)
+          fill after first in-head in-blocks (lt-leb (sizeFor front letters) q within) (ne-eqb (offsetAt front q) 0 some) (le-ltb q front h) (lt-ltb q (front + blocks letters * blockSize) l)
 
       pub at-total : front + blocks letters * blockSize ≤ q → refusalAt front letters q ≡ Total
       unfolding refusalAt
       at-total h =
-          last (leb (sizeFor front letters) q) (eqb (offsetAt front q) 0) (ltb q front) (ltb q (front + blocks letters * blockSize)) (lt-leb (sizeFor front letters) q within) (ne-eqb (offsetAt front q) 0 some) (le-ltb q front (omega arith)) (le-ltb q (front + blocks letters * blockSize) h)
+          last after first in-head in-blocks (lt-leb (sizeFor front letters) q within) (ne-eqb (offsetAt front q) 0 some) (le-ltb q front (omega arith)) (le-ltb q (front + blocks letters * blockSize) h)
 
 -- the offset of a byte past the head, and of the first of all
 pub offset-past : (front q : ℕ) → front ≤ q → offsetAt front q ≡ (q - front) % blockSize

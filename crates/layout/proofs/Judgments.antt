@@ -219,7 +219,7 @@ module _ {Head : Type 0} (y : Layout Head) (law : Lawful y) where
   not-share-and-beginning xs s b = omega (arith, share-alone xs (b .0) s (b .2), b .1)
 
   -- bytes of which one offends can't stand,
-  offends-not-stand : (xs : List ℕ) (q : ℕ) → Offends y xs q → CanStand y xs → ⊥
+  pub offends-not-stand : (xs : List ℕ) (q : ℕ) → Offends y xs q → CanStand y xs → ⊥
   offends-not-stand xs q o s =
       o .not-with (drop (q + 1) xs ++ s .0, rw (sym (append-assoc (take (q + 1) xs) (drop (q + 1) xs) (s .0)), take-append-drop) (s .1))
 
@@ -234,8 +234,7 @@ module _ {Head : Type 0} (y : Layout Head) (law : Lawful y) where
       ⊎-elim (λ s. absurd (n .0 s)) (λ w. ⊎-elim (λ b. absurd (n .1 b)) (λ o. o) w) (one-of-three xs bytes)
 
   pub one-place : (xs : List ℕ) (q q′ : ℕ) → Offends y xs q → Offends y xs q′ → q ≡ q′
-  one-place xs q q′ o o′ =
-      ⊎-elim (λ le. ⊎-elim (λ ge. omega arith) (λ lt. absurd (two q q′ o o′ lt)) (le-or-lt q′ q)) (λ lt. absurd (two q′ q o′ o lt)) (le-or-lt q q′)
+  one-place xs q q′ o o′ = omega (arith, two q q′ o o′, two q′ q o′ o)
     where
       -- bytes that a share can have first begin with bytes that it can
       two : (q q′ : ℕ) → Offends y xs q → Offends y xs q′ → q < q′ → ⊥

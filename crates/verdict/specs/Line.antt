@@ -73,17 +73,18 @@ completeLine h letters =
 abbrev pub malformedLine : ℕ → ℕ → List ℕ
 malformedLine number at = numbered malformedWord number ++ (numbered atWord at ++ newLine)
 
--- the line of a judgment; judging refuses by 7 alone, or tells what is wrong and where
+-- the line of a judgment, with the letters of a share by its head; judging refuses by 7 alone, or tells what is wrong and where
+abbrev pub lineWith : (Head → ℕ) → Outcome Head → List ℕ
+lineWith letters (Outcome.fine h) = completeLine h (letters h)
+lineWith letters (Outcome.refused n) = unfinishedLine
+lineWith letters (Outcome.wrong n q) = malformedLine n q
+
 abbrev pub lineFor : Outcome Head → List ℕ
-lineFor (Outcome.fine h) = completeLine h (nodeLetters (h .group) (h .node))
-lineFor (Outcome.refused n) = unfinishedLine
-lineFor (Outcome.wrong n q) = malformedLine n q
+lineFor = lineWith (λ h. nodeLetters (h .group) (h .node))
 
 -- the same for any judgment, those of no bytes too: a head whose numbers are out of range, which no share has, counts no letters
 abbrev pub judgmentLine : Outcome Head → List ℕ
-judgmentLine (Outcome.fine h) = completeLine h (kind1Total h)
-judgmentLine (Outcome.refused n) = unfinishedLine
-judgmentLine (Outcome.wrong n q) = malformedLine n q
+judgmentLine = lineWith kind1Total
 
 -- The line for these bytes: more than 65,536, whatever they are, are too long; others are judged.
 pub data Line (xs : List ℕ) : List ℕ → Type 0 where
