@@ -6,3 +6,5 @@ pub mod Runs
 pub mod Laying
 pub mod Worth
 pub mod Carried
+mod Apart
+mod Rests

@@ -6,8 +6,8 @@ use Prim.Native.Nat.{ℕ, zero, suc, _+_, _-_, _≤_, _<_}
 use native.Mathlib.Nat.{sub-zero, suc-sub-suc}
 use native.Mathlib.Numerals.{add-one}
 use native.Mathlib.Omega.{arith}
-use lib.ListN.{length, getD, take, set, length-append, length-take, length-drop, List·getD-eq-default, List·getD-append}
-use lib.Seq.{ext-getD, getD-append-add, length-take-le, take-suc}
+use lib.ListN.{length, getD, take, drop, set, length-append, length-take, length-drop, take-append-drop, List·getD-eq-default, List·getD-append}
+use lib.Seq.{ext-getD, getD-append-add, getD-drop, length-take-le, take-suc, take-add, drop-drop}
 use Rattle.letters.specs.Algebra.{Adding}
 use Rattle.letters.specs.Places.{letter}
 use Rattle.letters.specs.Runs.{xored, added}
@@ -203,3 +203,56 @@ module _ {A : Type 0} (𝓐 : Adding A) where
       rw (add-one, take-suc ys i (𝓐 .none))
       (added-append xs at (take i ys) (getD ys i (𝓐 .none) ∷ [])
       ∙ rw (length-take-le i ys (omega arith)) (added-one (added 𝓐 xs at (take i ys)) (at + i) (getD ys i (𝓐 .none))))
+
+  -- a part more of a run, from where it came to
+  pub added-on :
+      (xs : List A) (at : ℕ) (ys : List A) (i c : ℕ) → i ≤ length ys
+      → added 𝓐 (added 𝓐 xs at (take i ys)) (at + i) (take c (drop i ys)) ≡ added 𝓐 xs at (take (i + c) ys)
+  added-on xs at ys i c h =
+      sym (rw (take-add i c ys) (added-append xs at (take i ys) (take c (drop i ys)) ∙ rw (length-take-le i ys h) refl))
+
+  -- the same, as one step follows another
+  pub added-then :
+      (xs ys zs : List A) (at : ℕ) (run : List A) (i c : ℕ) → i ≤ length run → ys ≡ added 𝓐 xs at (take i run)
+      → zs ≡ added 𝓐 ys (at + i) (take c (drop i run)) → zs ≡ added 𝓐 xs at (take (i + c) run)
+  added-then xs ys zs at run i c h before step = step ∙ rw before (added-on xs at run i c h)
+
+  -- the same from a letter of the run on
+  pub added-past :
+      (xs ys zs : List A) (at : ℕ) (run : List A) (s i c : ℕ) → s ≤ i → i ≤ length run → ys ≡ added 𝓐 xs (at + s) (take (i - s) (drop s run))
+      → zs ≡ added 𝓐 ys (at + i) (take c (drop i run)) → zs ≡ added 𝓐 xs (at + s) (take (i + c - s) (drop s run))
+  added-past xs ys zs at run s i c order h before step =
+      added-then xs ys zs (at + s) (drop s run) (i - s) c (simp length-drop (omega arith)) before
+      (step ∙ ap₂ (added 𝓐 ys) place (ap (take c) (ap (λ n. drop n run) back ∙ sym (drop-drop (i - s) s run))))
+      ∙ ap (λ n. added 𝓐 xs (at + s) (take n (drop s run))) further
+    where
+      place : at + i ≡ at + s + (i - s)
+      place = omega arith
+
+      back : i ≡ s + (i - s)
+      back = omega arith
+
+      further : i - s + c ≡ i + c - s
+      further = omega arith
+
+  -- and the rest of it at last
+  pub added-whole :
+      (xs ys zs : List A) (at : ℕ) (run : List A) (i : ℕ) → i ≤ length run → ys ≡ added 𝓐 xs at (take i run)
+      → zs ≡ added 𝓐 ys (at + i) (drop i run) → zs ≡ added 𝓐 xs at run
+  added-whole xs ys zs at run i h before step =
+      step
+      ∙ ap (λ l. added 𝓐 l (at + i) (drop i run)) before
+      ∙ ap (λ n. added 𝓐 (added 𝓐 xs at (take i run)) (at + n) (drop i run)) (sym (length-take-le i run h))
+      ∙ sym (added-append xs at (take i run) (drop i run))
+      ∙ ap (added 𝓐 xs at) (take-append-drop i run)
+
+  -- past the run's end all is as it was
+  pub drop-added :
+      (xs : List A) (at : ℕ) (ys : List A) (a : ℕ) → at + length ys ≤ a → drop a (added 𝓐 xs at ys) ≡ drop a xs
+  drop-added xs at ys a h =
+      ext-getD (𝓐 .none) (drop a (added 𝓐 xs at ys)) (drop a xs) (simp (length-drop, length-added) refl)
+      (λ i l.
+      let l′ : i < length xs - a = rw (sym (length-added xs at ys), ← length-drop) l in
+      getD-drop a (added 𝓐 xs at ys) i (𝓐 .none)
+      ∙ added-after xs at ys (a + i) (omega arith) (omega arith)
+      ∙ sym (getD-drop a xs i (𝓐 .none)))

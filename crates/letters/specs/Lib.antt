@@ -5,3 +5,4 @@ pub mod Runs
 pub mod Laid
 pub mod Lanes
 pub mod Worth
+pub mod Steps

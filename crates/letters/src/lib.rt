@@ -1,5 +1,7 @@
 // Letters: bytes under XOR, the addition of one run of letters into another, and runs that are copied or cleared.
+mod eights;
 pub mod moving;
+mod within;
 
 ghost use mathlib.Core.Path.{_≡_};
 ghost use Prim.Native.Nat.{_+_, _≤_, min};
@@ -15,12 +17,11 @@ pub fn add_run(into: &mut [u8], at: usize, run: &[u8]) -> usize
     ensures letters { λ r. ⌜ now (into .exit) ≡ added xors (now (into .entry)) at (now (run .entry)) ⌝ }
     ensures count { λ r. ⌜ r ≡ worth (now (run .entry)) ⌝ }
 {
-    let mut i = 0;
-    while i < run.len() {
-        into[at + i] ^= run[i];
-        i += 1;
-    }
-    i
+    // The run as a part of itself is what is lent on: so the compiler takes its pointer and length in registers, five instructions less a call.
+    let lent = &run[0..];
+    let i = eights::add_rests(into, at, lent);
+    eights::add_blocks(into, at, lent, i);
+    lent.len()
 }
 
 // Adds `count` letters of `buffer` that start at index `from` into the earlier letters that start at index `to`.
@@ -31,12 +32,9 @@ pub fn add_within(buffer: &mut [u8], to: usize, from: usize, count: usize) -> us
     ensures letters { λ r. ⌜ now (buffer .exit) ≡ added xors (now (buffer .entry)) to (take count (drop from (now (buffer .entry)))) ⌝ }
     ensures count { λ r. ⌜ r ≡ worth (take count (drop from (now (buffer .entry)))) ⌝ }
 {
-    let mut i = 0;
-    while i < count {
-        buffer[to + i] ^= buffer[from + i];
-        i += 1;
-    }
-    i
+    let i = within::add_rests(buffer, to, from, count);
+    within::add_blocks(buffer, to + i, from + i, count - i);
+    count
 }
 
 // The lesser of two numbers.

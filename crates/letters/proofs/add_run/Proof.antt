@@ -1,74 +1,59 @@
--- `letters::add_run` meets its contract: after i turns the first i letters of the run are in.
-use mathlib.Core.Path.{_≡_, refl, sym, _∙_}
-use Prim.Native.Nat.{_≤_, _-_}
-use native.Mathlib.Omega.{arith}
-use lib.ListN.{length, take, length-set}
+-- `letters::add_run` meets its contract: the rests are in first, and then the blocks that are left.
+use mathlib.Core.Path.{_≡_, sym, ap, _∙_}
+use mathlib.Core.List.{List}
+use Prim.Native.Nat.{ℕ, _-_}
+use native.Mathlib.Nat.{sub-zero}
+use lib.ListN.{length, take}
 use lib.Seq.{take-length}
 use Rattle.letters.specs.Algebra.{xors}
 use Rattle.letters.specs.Runs.{added}
-use Rattle.letters.proofs.Runs.{added-none, added-next}
+use Rattle.letters.proofs.Runs.{added-whole}
+use Rattle.letters.proofs.Rests.{in-run}
 use Rattle.letters.proofs.Worth.{worth-is-length}
+use borrow.Author.Needs.{needs}
 use Rattle.letters.proofs.add_run.Statement.{statement}
 use Rattle.letters.proofs.add_run.Tie as tie
 
-abbrev Inv-loop : tie.InvT-loop
-Inv-loop into₀ at run i₀ into i =
-    (i ≤ length run) × (length into ≡ length into₀) × (into ≡ added xors into₀ at (take i run))
+-- the part that is lent, which is the run
+itself : (xs : List ℕ) → take (length xs - 0) xs ≡ xs
+itself xs = rw sub-zero (take-length xs)
 
-abbrev μ-loop : tie.MeasureT-loop
-μ-loop into₀ at run i₀ into i = length run - i
+sub-lent : tie.Need-sub-lent
+sub-lent c = search needs
 
-loop-holds : tie.Need-loop-holds Inv-loop μ-loop
-loop-holds c = (omega arith, refl, sym (added-none xors (c .args .into .now) (c .args .at)))
+part-lent-start : tie.Need-part-lent-start
+part-lent-start c = search needs
 
-shared-slice-read-into : tie.Need-shared-slice-read-into Inv-loop μ-loop
-shared-slice-read-into c = omega arith
+part-lent-end : tie.Need-part-lent-end
+part-lent-end c = search needs
 
-add-into : tie.Need-add-into Inv-loop μ-loop
-add-into c = omega arith
+add-rests-requires : tie.Need-add-rests-requires
+add-rests-requires c κs = search needs
 
-slice-read-into : tie.Need-slice-read-into Inv-loop μ-loop
-slice-read-into c = omega arith
+add-blocks-requires : tie.Need-add-blocks-requires
+add-blocks-requires c κs = search needs
 
-slice-write-into : tie.Need-slice-write-into Inv-loop μ-loop
-slice-write-into c = omega arith
+same-length : tie.Need-same-length
+same-length c = search needs
 
-add-i : tie.Need-add-i Inv-loop μ-loop
-add-i c = omega arith
-
-loop-less : tie.Need-loop-less Inv-loop μ-loop
-loop-less c = omega arith
-
-loop-again : tie.Need-loop-again Inv-loop μ-loop
-loop-again c =
-    let s = c .before .before .before in
-    let a = s .before .args in (
-      omega arith,
-      simp length-set (s .loop .inv .1),
-      rw (added-next xors (a .into .now) (a .at) (a .run .now) (s .loop .i) (omega arith), ← s .loop .inv .2) refl,
-    )
-
-same-length : tie.Need-same-length Inv-loop μ-loop
-same-length c = c .before .loop .inv .1
-
-returns : tie.Need-returns Inv-loop μ-loop
+returns : tie.Need-returns
 returns c =
-    let done : c .before .loop .i ≡ length (c .before .before .args .run .now) = omega arith in
-    (c .before .loop .inv .2 ∙ rw (done, take-length) refl, done ∙ sym (worth-is-length (c .before .before .args .run .now)))
+    let a = c .before .before .before .before .before .before .before .before .before .before .before .args in
+    let s = c .before .before .before .before .before .before in
+    let lent = take (length (a .run .now) - 0) (a .run .now) in (
+      added-whole xors (a .into .now) _ _ (a .at) lent _ (in-run _ _ _ (s .add-rests .ensures .1)) (s .add-rests .ensures .0) (c .before .before .add-blocks .ensures)
+          ∙ ap (added xors (a .into .now) (a .at)) (itself (a .run .now)),
+      ap length (itself (a .run .now)) ∙ sym (worth-is-length (a .run .now)),
+    )
 
 pub add-run-spec : {M : Type 1} → statement M
 add-run-spec =
     tie.close
     (tie.spec
-    Inv-loop
-    μ-loop
-    loop-holds
-    shared-slice-read-into
-    add-into
-    slice-read-into
-    slice-write-into
-    add-i
-    loop-less
-    loop-again
+    sub-lent
+    part-lent-start
+    part-lent-end
+    add-rests-requires
+    add-blocks-requires
     same-length
     returns)
