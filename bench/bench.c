@@ -2,6 +2,9 @@
  * valgrind's callgrind or under bench/count.c, its instructions are counted. bench/run makes the table. */
 #include "../include/dulvaspen.h"
 #include "plain.h"
+/* run addition alone, of the crate bench_runs */
+extern uint64_t bench_add_run(uint8_t *into, uint64_t into_len, uint64_t at, const uint8_t *run, uint64_t run_len);
+extern uint64_t bench_add_within(uint8_t *buffer, uint64_t buffer_len, uint64_t to, uint64_t from, uint64_t count);
 #include <stdio.h>
 #include <stdlib.h>
 #include <string.h>
@@ -48,6 +51,34 @@ static void compare(const char *name, uint64_t letters, uint64_t additions) {
     if (memcmp(got, want, letters)) stop(name, 99);
     printf("size %s %llu,%llu,%llu %llu %llu %llu\n", name, (unsigned long long)g.n, (unsigned long long)g.k, (unsigned long long)g.d,
            (unsigned long long)g.l, (unsigned long long)letters, (unsigned long long)additions);
+}
+
+/* A run of so many letters added into another buffer, and to earlier letters of its own. */
+static void runs(uint64_t count) {
+    uint64_t size = 3 * count + 64, at = 3, from = at + count + 5;
+    g = (group){0, 0, 0, count};
+    for (uint64_t i = 0; i < size; i++) input[i] = (uint8_t)(i * 59 + (i >> 8) * 7 + 1);
+    MEASURE("add_run", "ours", got, size, (count_ours = bench_add_run(got, size, at, file + 1, count), 0));
+    MEASURE("add_run", "plain", want, size, (count_plain = plain_add_run(want, size, at, file + 1, count), 0));
+    if (count_ours != count_plain || memcmp(got, want, size)) stop("add_run", 98);
+    compare("add_run", count, count);
+    MEASURE("add_within", "ours", got, size, (count_ours = bench_add_within(got, size, at, from, count), 0));
+    MEASURE("add_within", "plain", want, size, (count_plain = plain_add_within(want, size, at, from, count), 0));
+    if (count_ours != count_plain || memcmp(got, want, size)) stop("add_within", 98);
+    compare("add_within", count, count);
+}
+
+/* Run addition must leave and answer what plain C does at every short length, wherever the runs start. */
+static void short_runs(void) {
+    for (uint64_t count = 0; count <= 400; count++)
+        for (uint64_t at = 0; at < 4; at++) {
+            uint64_t size = 2 * count + 16, from = at + count + 3;
+            memcpy(got, input, size);
+            memcpy(want, input, size);
+            if (bench_add_run(got, size, at, file + at, count) != plain_add_run(want, size, at, file + at, count)) stop("add_run", count);
+            if (bench_add_within(got, size, at, from, count) != plain_add_within(want, size, at, from, count)) stop("add_within", count);
+            if (memcmp(got, want, size)) stop("a short run", count);
+        }
 }
 
 static void packets(uint64_t letters) {
@@ -150,12 +181,14 @@ static void shares(void) {
 
 int main(int argc, char **argv) {
     static const group groups[] = {{6, 3, 4, 0}, {16, 4, 6, 0}, {16, 10, 12, 0}, {16, 15, 15, 0}};
-    static const uint64_t lengths[] = {64, 4096};
+    static const uint64_t lengths[] = {64, 4096}, run_lengths[] = {7, 64, 100, 4096};
     uint64_t letters;
     if (argc != 2 || (strcmp(argv[1], "time") && strcmp(argv[1], "count"))) { fprintf(stderr, "bench: say time or count\n"); return 2; }
     timing = !strcmp(argv[1], "time");
     for (uint64_t i = 0; i < sizeof file; i++) file[i] = (uint8_t)(i * 131 + (i >> 7) * 29 + (i >> 13));
     MEASURE("nothing", "ours", got, 0, 0);
+    for (int i = 0; i < 4; i++) runs(run_lengths[i]);
+    short_runs();
     for (int i = 0; i < 4; i++)
         for (int j = 0; j < 2; j++) {
             g = groups[i];

@@ -7,7 +7,9 @@
 
 struct qemu_plugin_tb;
 extern void qemu_plugin_register_vcpu_tb_trans_cb(uint64_t, void (*)(uint64_t, struct qemu_plugin_tb *));
-extern void qemu_plugin_register_vcpu_tb_exec_inline(struct qemu_plugin_tb *, int, void *, uint64_t);
+struct qemu_plugin_insn;
+extern struct qemu_plugin_insn *qemu_plugin_tb_get_insn(const struct qemu_plugin_tb *, size_t);
+extern void qemu_plugin_register_vcpu_insn_exec_inline(struct qemu_plugin_insn *, int, void *, uint64_t);
 extern size_t qemu_plugin_tb_n_insns(const struct qemu_plugin_tb *);
 extern void qemu_plugin_register_vcpu_syscall_cb(uint64_t, void (*)(uint64_t, unsigned, int64_t, uint64_t, uint64_t, uint64_t, uint64_t, uint64_t,
                                                                      uint64_t, uint64_t, uint64_t));
@@ -15,9 +17,11 @@ extern void qemu_plugin_register_vcpu_syscall_cb(uint64_t, void (*)(uint64_t, un
 __attribute__((visibility("default"))) int qemu_plugin_version = 1;
 static uint64_t executed;
 
+/* One by one: where an instruction crosses a page, the block before it says that it has it, too, though it is executed in the next. */
 static void translated(uint64_t id, struct qemu_plugin_tb *block) {
     (void)id;
-    qemu_plugin_register_vcpu_tb_exec_inline(block, 0, &executed, qemu_plugin_tb_n_insns(block));
+    for (size_t i = 0; i < qemu_plugin_tb_n_insns(block); i++)
+        qemu_plugin_register_vcpu_insn_exec_inline(qemu_plugin_tb_get_insn(block, i), 0, &executed, 1);
 }
 
 static void called(uint64_t id, unsigned cpu, int64_t number, uint64_t file, uint64_t from, uint64_t mark, uint64_t a4, uint64_t a5, uint64_t a6,

@@ -33,6 +33,18 @@ static void add(uint8_t *restrict to, const uint8_t *restrict from, uint64_t cou
     for (uint64_t i = 0; i < count; i++) to[i] ^= from[i];
 }
 
+uint64_t plain_add_run(uint8_t *into, uint64_t into_len, uint64_t at, const uint8_t *run, uint64_t run_len) {
+    (void)into_len;
+    add(into + at, run, run_len);
+    return run_len;
+}
+
+uint64_t plain_add_within(uint8_t *buffer, uint64_t buffer_len, uint64_t to, uint64_t from, uint64_t count) {
+    (void)buffer_len;
+    add(buffer + to, buffer + from, count);
+    return count;
+}
+
 uint64_t plain_encode(group g, uint64_t node, const uint8_t *file, uint64_t file_len, uint8_t *packets, uint64_t packets_len) {
     uint64_t r = check_node(g, node), length = piece_letters(g, node);
     if (r) return r;

@@ -3,6 +3,8 @@
 
 typedef struct { uint64_t n, k, d, l; } group;
 
+uint64_t plain_add_run(uint8_t *into, uint64_t into_len, uint64_t at, const uint8_t *run, uint64_t run_len);
+uint64_t plain_add_within(uint8_t *buffer, uint64_t buffer_len, uint64_t to, uint64_t from, uint64_t count);
 uint64_t plain_encode(group g, uint64_t node, const uint8_t *file, uint64_t file_len, uint8_t *packets, uint64_t packets_len);
 uint64_t plain_help(group g, uint64_t lost, uint64_t helper, uint64_t rank, const uint8_t *packets, uint64_t packets_len, uint8_t *piece,
                     uint64_t piece_len);
