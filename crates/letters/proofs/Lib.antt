@@ -7,4 +7,4 @@ pub mod Laying
 pub mod Worth
 pub mod Carried
 mod Apart
-mod Rests
+pub mod Rests

@@ -1,5 +1,5 @@
 // Letters: bytes under XOR, the addition of one run of letters into another, and runs that are copied or cleared.
-mod eights;
+pub mod eights;
 pub mod moving;
 mod within;
 

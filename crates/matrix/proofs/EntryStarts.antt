@@ -1,5 +1,5 @@
 -- Where the entries of a column start, row by row: one sequence on above the diagonal, and a whole column on from there.
-use mathlib.Core.Path.{_≡_, ap, _∙_}
+use mathlib.Core.Path.{_≡_, ap, ap₂, _∙_}
 use Prim.Native.Nat.{ℕ, _+_, _-_, _*_, _≤_, _<_, min, max}
 use native.Mathlib.Nat.{add-mul, one-mul, mul-le-mul}
 use native.Mathlib.Omega.{arith}
@@ -48,3 +48,14 @@ module _ (g : Group) (r : InRange g) (v u : ℕ) (lv : 1 ≤ v) (lu : 1 ≤ u) w
   pub start-fits : v ≤ g .d → u ≤ g .d → min v u ≤ g .k → entryStart g v u + g .l ≤ fileLetters g
   unfolding entryStart
   start-fits hv hu h = entry-fits g r (min v u) (max v u) (omega arith) (omega arith) (omega arith) (omega arith)
+
+-- the first entry of a column
+pub first-start : (g : Group) (u : ℕ) → 1 ≤ u → (entryNumber (g .k) 1 u - 1) * g .l ≡ entryStart g 1 u
+unfolding entryStart
+first-start g u h = ap₂ (λ a b. (entryNumber (g .k) a b - 1) * g .l) low high
+  where
+    low : 1 ≡ min 1 u
+    low = omega arith
+
+    high : u ≡ max 1 u
+    high = omega arith

@@ -4,3 +4,4 @@ pub mod Pieces
 pub mod Repair
 pub mod Counts
 pub mod Chain
+pub mod Steps

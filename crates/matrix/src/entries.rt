@@ -6,6 +6,7 @@ ghost use Rattle.group.specs.Ranges.{InRange};
 ghost use Rattle.lengths.specs.Lengths.{fileLetters};
 ghost use Rattle.matrix.specs.Matrix.{before, entryNumber, entryStart};
 ghost use Rattle.matrix.specs.Matrix.{Free};
+ghost use Rattle.matrix.specs.Steps.Starts.{StartsOf};
 
 // How many sequences stand before a column.
 pub fn sequences_before(k: usize, column: usize) -> usize
@@ -37,4 +38,20 @@ pub fn next_start(g: Group, row: usize, column: usize, start: usize) -> usize
         return start + g.l;
     }
     start + letters::lesser(row, g.k) * g.l
+}
+
+// Where the entries of a column start, row by row from the first to the d-th.
+pub fn column_starts(g: Group, column: usize) -> [usize; 16]
+    requires { ⌜ (InRange g) × (1 ≤ column) × (column ≤ g .d) ⌝ }
+    ensures { λ r. ⌜ StartsOf g column r ⌝ }
+{
+    let mut starts = [0usize; 16];
+    let mut start = free_start(g, 1, column);
+    let mut row = 0;
+    while row < g.d {
+        starts[row] = start;
+        row += 1;
+        start = next_start(g, row, column, start);
+    }
+    starts
 }

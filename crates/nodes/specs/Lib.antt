@@ -1,2 +1,3 @@
 -- What a node holds.
 pub mod Calls
+pub mod Steps

@@ -1,2 +1,4 @@
 // What a node holds: its packets of a file.
 pub mod encoding;
+mod laying;
+mod summing;

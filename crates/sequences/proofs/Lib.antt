@@ -3,6 +3,7 @@ pub mod CarriedRuns
 pub mod Charted
 pub mod LinearRuns
 pub mod Lists
+pub mod MovedRuns
 pub mod PushRun
 pub mod PutBack
 pub mod SeenRuns

@@ -1,6 +1,8 @@
-// The chosen nodes' shifts, laid out as the solver wants them.
+// The chosen nodes' shifts, laid out as the solver wants them, and those of one node.
 ghost use Rattle.shifts.specs.Rule.{t};
-ghost use Rattle.sequences.specs.Steps.Rows.{Known, RowsOf};
+ghost use Prim.Native.Nat.{_≤_};
+ghost use Rattle.shifts.specs.Table.{Table};
+ghost use Rattle.sequences.specs.Steps.Rows.{Known, RowsOf, RowOf};
 
 // The shift of each node and column: sixteen columns to a row, a row for each id in turn.
 pub fn shift_rows(ids: &[usize]) -> [usize; 256]
@@ -16,4 +18,18 @@ pub fn shift_rows(ids: &[usize]) -> [usize; 256]
         i += 1;
     }
     rows
+}
+
+// The shifts of one node, one for each column, read in the table.
+pub fn shift_row(table: &[u8], node: usize) -> [usize; 16]
+    requires { ⌜ (Table (now table)) × (1 ≤ node) × (node ≤ 16) ⌝ }
+    ensures { λ r. ⌜ RowOf t node r ⌝ }
+{
+    let mut row = [0usize; 16];
+    let mut j = 0;
+    while j < 16 {
+        row[j] = shifts::shift_in(table, node, j + 1);
+        j += 1;
+    }
+    row
 }

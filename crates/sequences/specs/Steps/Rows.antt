@@ -15,3 +15,8 @@ pub record Known (ids : List ℕ) : Type 0 where
 pub record RowsOf (rule : ShiftRule) (ids rows : List ℕ) : Type 0 where
   pub size : length rows ≡ 256
   pub shifts : (j : ℕ) → j < length ids * 16 → getD rows j 0 ≡ rule (getD ids (j / 16) 0) (j % 16 + 1)
+
+-- the sixteen shifts of one node under a rule
+pub record RowOf (rule : ShiftRule) (node : ℕ) (row : List ℕ) : Type 0 where
+  pub size : length row ≡ 16
+  pub shifts : (j : ℕ) → j < 16 → getD row j 0 ≡ rule node (j + 1)

@@ -1,4 +1,4 @@
--- `encoding::add_entry` meets its contract: the entry is a run of the file, which fits the packet, or lies in the zero corner.
+-- `summing::add_entry` meets its contract: the entry is a run of the file, which fits the packet, or lies in the zero corner.
 use Rattle.matrix.specs.Matrix.{entryStart, matrix}
 use Rattle.letters.specs.Places.{letter}
 use Rattle.letters.proofs.Runs.{length-added}
@@ -14,8 +14,8 @@ use Rattle.sequences.proofs.SeenRuns.{seen-whole}
 use Rattle.sequences.proofs.Summing.{adds-nothing, part-adds}
 use borrow.Author.Needs.{needs}
 use native.Mathlib.Omega.{arith}
-use Rattle.nodes.proofs.encoding.add_entry.Statement.{statement}
-use Rattle.nodes.proofs.encoding.add_entry.Tie as tie
+use Rattle.nodes.proofs.summing.add_entry.Statement.{statement}
+use Rattle.nodes.proofs.summing.add_entry.Tie as tie
 
 returns : tie.Need-returns
 returns c = let s = c .before .before .before .before .before .before .before in

@@ -1,19 +1,20 @@
--- `encoding::encode_packet` meets its contract: after each turn one entry more is in the sum, and `start` is where the next one starts.
+-- `summing::add_packet` meets its contract: after each turn one entry more is in the sum, and `start` is where the next one starts.
 use native.Mathlib.Omega.{arith}
-use mathlib.Core.Path.{_≡_, refl, sym, ap, ap₂, subst, _∙_}
-use Prim.Native.Nat.{_≤_, _+_, _-_, _*_, min, max}
+use mathlib.Core.Path.{_≡_, refl, sym, ap, subst, _∙_}
+use Prim.Native.Nat.{_≤_, _+_, _-_}
 use native.Mathlib.Nat.{add-zero}
 use lib.ListN.{length}
 use Rattle.letters.specs.Algebra.{xors}
 use Rattle.shifts.specs.Rule.{t}
 use Rattle.lengths.specs.Lengths.{packetLength}
-use Rattle.matrix.specs.Matrix.{entryNumber, entryStart, matrix, packetLetter, packet}
+use Rattle.matrix.specs.Matrix.{entryStart, matrix, packetLetter, packet}
+use Rattle.matrix.proofs.EntryStarts.{first-start}
 use Rattle.sequences.specs.Moved.{moved}
 use Rattle.sequences.specs.Steps.Windows.{Summed}
 use Rattle.sequences.proofs.Summing.{summed-none, summed-more, summed-run}
 use borrow.Author.Needs.{needs}
-use Rattle.nodes.proofs.encoding.encode_packet.Statement.{statement}
-use Rattle.nodes.proofs.encoding.encode_packet.Tie as tie
+use Rattle.nodes.proofs.summing.add_packet.Statement.{statement}
+use Rattle.nodes.proofs.summing.add_packet.Tie as tie
 
 abbrev Inv-loop : tie.InvT-loop
 Inv-loop g node column table file letters₀ start₀ row₀ letters start row = (row ≤ g .d) × (length letters ≡ length letters₀) × (start ≡ entryStart g (row + 1) column) × Summed row 0 (t node) (λ u. matrix xors g file u column) letters
@@ -25,11 +26,8 @@ free-start-requires : tie.Need-free-start-requires Inv-loop μ-loop
 free-start-requires c κs = search needs
 
 loop-holds : tie.Need-loop-holds Inv-loop μ-loop
-unfolding entryStart
 loop-holds c = let s = c .before .before .before .before in
-    let low : 1 ≡ min 1 (s .args .column) = omega arith in
-    let high : s .args .column ≡ max 1 (s .args .column) = omega arith in
-    (omega arith, refl, c .free-start .ensures .0 ∙ ap₂ (λ v u. (entryNumber (s .args .g .k) v u - 1) * s .args .g .l) low high, summed-none 0 _ _ _ (s .pre .1 .1 .2))
+    (omega arith, refl, c .free-start .ensures .0 ∙ first-start (s .args .g) (s .args .column) (omega arith), summed-none 0 _ _ _ (s .pre .1 .1 .2))
 
 add-row : tie.Need-add-row Inv-loop μ-loop
 add-row c = search needs
@@ -68,8 +66,8 @@ returns c =
     (subst (λ m. Summed m 0 (t (a .node)) (λ u. matrix xors (a .g) (a .file .now) u (a .column)) (s .loop .letters)) done (s .loop .inv .3))
     (λ p. ap (moved xors (a .g .d) (t (a .node)) (λ u. matrix xors (a .g) (a .file .now) u (a .column))) (sym (add-zero p)))
 
-pub encode-packet-spec : {M : Type 1} → statement M
-encode-packet-spec =
+pub add-packet-spec : {M : Type 1} → statement M
+add-packet-spec =
     tie.close
     (tie.spec
     Inv-loop

@@ -1,0 +1,3 @@
+-- The laws of sums of several runs.
+pub mod Filled
+pub mod Sums

@@ -1,0 +1,2 @@
+-- Sums of several runs of one buffer.
+pub mod Sums
