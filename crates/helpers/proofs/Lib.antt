@@ -1,2 +1,3 @@
 -- Why help keeps its contract.
 pub mod HelpCalls
+mod HeldRuns

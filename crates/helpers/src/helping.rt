@@ -1,17 +1,12 @@
 // What a helper makes for a lost node.
+use crate::summing;
 use group::Answer;
 use group::Check;
 use group::Group;
 use group::Refusal;
-use sequences::windows;
 ghost use mathlib.Core.Path.{_≡_};
-ghost use lib.ListN.{length};
-ghost use Rattle.letters.specs.Algebra.{xors};
-ghost use Rattle.shifts.specs.Table.{Table};
 ghost use Rattle.group.specs.Answers.{checkNumber};
 ghost use Rattle.group.specs.Ranges.{NodeOf};
-ghost use Rattle.lengths.specs.Lengths.{packetLength, nodeLetters, repairLetters};
-ghost use Rattle.matrix.specs.Repair.{helping};
 ghost use Rattle.helpers.specs.Calls.{helperRefusal, Helped};
 ghost use Rattle.helpers.specs.Steps.Checked.{Helper};
 
@@ -86,37 +81,8 @@ fn help_exact(
     match group::checks::lengths(packets.len(), g.d * size, piece.len(), wanted) {
         Check::Refused(refusal) => Answer::Refused(refusal),
         Check::Fine => {
-            sum_packets(g, lost, helper, rank, size, &table, packets, piece);
+            summing::sum_packets(g, lost, helper, rank, size, &table, packets, piece);
             Answer::Value(0)
         }
-    }
-}
-
-// The sum over the helper's packets, of `size` letters each, each moved right by t(lost, j), as the window of its rank sees it.
-fn sum_packets(
-    g: Group,
-    lost: usize,
-    helper: usize,
-    rank: usize,
-    size: usize,
-    table: &[u8],
-    packets: &[u8],
-    piece: &mut [u8],
-)
-    requires table { ⌜ Table (now table) ⌝ }
-    requires helper { ⌜ (Helper g lost helper rank) × (size ≡ packetLength g helper 1) ⌝ }
-    requires lengths { ⌜ (length (now packets) ≡ nodeLetters g helper) × (length (now piece) ≡ repairLetters g lost) ⌝ }
-    ensures { λ r. ⌜ now (piece .exit) ≡ helping xors g lost helper rank (now (packets .entry)) ⌝ }
-{
-    let skip = shifts::shift_in(table, helper, rank);
-    windows::clear(piece);
-    let mut end = 0;
-    let mut j = 0;
-    while j < g.d {
-        j += 1;
-        let start = end;
-        end = start + size;
-        let lead = shifts::shift_in(table, lost, j);
-        windows::add_seen(piece, &packets[start..end], skip, lead);
     }
 }

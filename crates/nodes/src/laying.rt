@@ -57,7 +57,17 @@ fn lay_packet(
 {
     let starts = entries::column_starts(g, column);
     let rows = rows_used(g, column);
-    moved::lay_sum(letters, file, g.l, &starts, shifts, rows, 0, size - g.l, g.l);
+    moved::lay_sum(
+        letters,
+        file,
+        g.l,
+        &starts,
+        shifts,
+        rows,
+        0,
+        size - g.l,
+        g.l,
+    );
 }
 
 // How many rows of a column are to be summed: the others are in the zero corner.

@@ -14,7 +14,14 @@ ghost use Rattle.matrix.specs.Matrix.{entryStart, matrix, packet, packets as pr
 ghost use Rattle.sequences.specs.Steps.Windows.{Adds, Zeros};
 
 // The d packets, one after another, all of `size` letters: cleared, and then each entry added.
-pub fn add_packets(g: Group, node: usize, size: usize, table: &[u8], file: &[u8], packets: &mut [u8])
+pub fn add_packets(
+    g: Group,
+    node: usize,
+    size: usize,
+    table: &[u8],
+    file: &[u8],
+    packets: &mut [u8],
+)
     requires table { ⌜ Table (now table) ⌝ }
     requires node { ⌜ (NodeOf g node) × (size ≡ packetLength g node 1) ⌝ }
     requires lengths { ⌜ (length (now file) ≡ fileLetters g) × (length (now packets) ≡ nodeLetters g node) ⌝ }
@@ -32,14 +39,7 @@ pub fn add_packets(g: Group, node: usize, size: usize, table: &[u8], file: &[u8]
 }
 
 // Packet `column` of the node, from zeros: the sum of the column's d entries, each moved right by the node's shift of its row.
-fn add_packet(
-    g: Group,
-    node: usize,
-    column: usize,
-    table: &[u8],
-    file: &[u8],
-    letters: &mut [u8],
-)
+fn add_packet(g: Group, node: usize, column: usize, table: &[u8], file: &[u8], letters: &mut [u8])
     requires table { ⌜ Table (now table) ⌝ }
     requires node { ⌜ (NodeOf g node) × (1 ≤ column) × (column ≤ g .d) ⌝ }
     requires lengths { ⌜ (length (now file) ≡ fileLetters g) × (length (now letters) ≡ packetLength g node column) × Zeros (now letters) ⌝ }

@@ -21,9 +21,33 @@ pub fn lay_sum(
     requires middle { ⌜ (AllSeen (now leads) sources size skip front back) × (back ≤ length (now into)) ⌝ }
     ensures { λ _. ⌜ Holding (now (from .entry)) (now (starts .entry)) (now (leads .entry)) sources size skip (now (into .entry)) (now (into .exit)) ⌝ }
 {
-    add_each(&mut into[0..front], from, size, starts, leads, sources, skip);
-    lay_middle(&mut into[front..back], from, size, starts, leads, sources, skip + front);
-    add_each(&mut into[back..], from, size, starts, leads, sources, skip + back);
+    add_each(
+        &mut into[0..front],
+        from,
+        size,
+        starts,
+        leads,
+        sources,
+        skip,
+    );
+    lay_middle(
+        &mut into[front..back],
+        from,
+        size,
+        starts,
+        leads,
+        sources,
+        skip + front,
+    );
+    add_each(
+        &mut into[back..],
+        from,
+        size,
+        starts,
+        leads,
+        sources,
+        skip + back,
+    );
 }
 
 // The same run by run, wherever they have letters.

@@ -9,10 +9,6 @@ use Rattle.matrix.specs.Matrix.{entryStart}
 use Rattle.matrix.proofs.EntryStarts.{first-start}
 use Rattle.matrix.proofs.entries.column_starts.Statement.{statement}
 use Rattle.matrix.proofs.entries.column_starts.Tie as tie
-use Rattle.matrix.proofs.entries.column_starts.Reads as reads
-use Rattle.matrix.proofs.entries.column_starts.Lts as lts
-use Rattle.matrix.proofs.entries.free_start.Reads as free-start-reads
-use Rattle.matrix.proofs.entries.next_start.Reads as next-start-reads
 
 abbrev Inv-loop : tie.InvT-loop
 Inv-loop g column starts₀ start₀ row₀ starts start row = (row ≤ g .d) × (length starts ≡ 16) × (start ≡ entryStart g (row + 1) column) × ((i : ℕ) → i < row → getD starts i 0 ≡ entryStart g (i + 1) column)

@@ -5,10 +5,6 @@ use Rattle.lengths.proofs.Sizes.{node-at-most, packet-fits}
 use borrow.Author.Needs.{needs}
 use Rattle.nodes.proofs.encoding.encode_packets.Statement.{statement}
 use Rattle.nodes.proofs.encoding.encode_packets.Tie as tie
-use Rattle.nodes.proofs.encoding.encode_packets.Reads as reads
-use Rattle.nodes.proofs.encoding.encode_packets.Lts as lts
-use Rattle.nodes.proofs.laying.lay_packets.Reads as lay-packets-reads
-use Rattle.nodes.proofs.summing.add_packets.Reads as add-packets-reads
 
 sub-widest : tie.Need-sub-widest
 unfolding packetLength

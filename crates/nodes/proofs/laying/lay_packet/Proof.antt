@@ -5,11 +5,6 @@ use Rattle.nodes.proofs.Columns.{entry-runs, entries-seen, laid-packet}
 use borrow.Author.Needs.{needs}
 use Rattle.nodes.proofs.laying.lay_packet.Statement.{statement}
 use Rattle.nodes.proofs.laying.lay_packet.Tie as tie
-use Rattle.nodes.proofs.laying.lay_packet.Reads as reads
-use Rattle.nodes.proofs.laying.lay_packet.Lts as lts
-use Rattle.matrix.proofs.entries.column_starts.Reads as column-starts-reads
-use Rattle.nodes.proofs.laying.rows_used.Reads as rows-used-reads
-use Rattle.sequences.proofs.moved.lay_sum.Reads as lay-sum-reads
 
 column-starts-requires : tie.Need-column-starts-requires
 column-starts-requires c κs = search needs

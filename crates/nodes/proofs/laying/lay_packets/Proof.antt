@@ -13,10 +13,6 @@ use Rattle.matrix.proofs.Product.{packet-same, packet-first}
 use Rattle.nodes.proofs.Packets.{lent, kept, next, ends, all-packets}
 use Rattle.nodes.proofs.laying.lay_packets.Statement.{statement}
 use Rattle.nodes.proofs.laying.lay_packets.Tie as tie
-use Rattle.nodes.proofs.laying.lay_packets.Reads as reads
-use Rattle.nodes.proofs.laying.lay_packets.Lts as lts
-use Rattle.nodes.proofs.laying.lay_packet.Reads as lay-packet-reads
-use Rattle.sequences.proofs.rows.shift_row.Reads as shift-row-reads
 
 abbrev Inv-loop : tie.InvT-loop
 Inv-loop g node size table file packets₀ shifts end₀ j₀ packets end j = (j ≤ g .d) × (length packets ≡ length packets₀) × (end ≡ packetStart g node (j + 1)) × (take end packets ≡ joined j (packet xors g file node))

@@ -1,24 +1,17 @@
 -- `moved::add_each` meets its contract: after every turn one run more is in the sum.
 use native.Mathlib.Omega.{arith}
-use mathlib.Core.Path.{_≡_, refl, sym, ap, _∙_}
-use Prim.Native.Nat.{ℕ, _+_, _-_, _≤_, _<_}
-use lib.ListN.{length, getD, set, length-set}
-use lib.Seq.{getD-set-same, getD-set-other}
-use mathlib.Core.Logic.{⊎-elim}
-use Rattle.letters.proofs.Cases.{le-or-lt}
+use mathlib.Core.Path.{_≡_, refl, _∙_}
+use Prim.Native.Nat.{_-_, _≤_}
+use lib.ListN.{length}
 use borrow.Author.Needs.{needs}
 use Rattle.sums.specs.Sums.{startOf}
 use Rattle.sums.proofs.Sums.{fits-at}
 use Rattle.sequences.specs.Steps.Windows.{Summed}
 use Rattle.sequences.specs.Steps.MovedRuns.{runLetter}
 use Rattle.sequences.proofs.Summing.{summed-none, summed-more}
-use Rattle.sequences.proofs.MovedRuns.{run-seen, leads-at, seen-inside, middle-summed}
+use Rattle.sequences.proofs.MovedRuns.{run-seen}
 use Rattle.sequences.proofs.moved.add_each.Statement.{statement}
 use Rattle.sequences.proofs.moved.add_each.Tie as tie
-use Rattle.sequences.proofs.moved.add_each.Reads as reads
-use Rattle.sequences.proofs.moved.add_each.Lts as lts
-use Rattle.sequences.proofs.windows.add_seen.Reads as add-seen-reads
-use Rattle.sequences.proofs.windows.clear.Reads as clear-reads
 
 abbrev Inv-loop : tie.InvT-loop
 Inv-loop into₀ from size starts leads sources skip u₀ into u = (u ≤ sources) × (length into ≡ length into₀) × Summed u skip (startOf leads) (runLetter from starts size) into

@@ -1,24 +1,14 @@
 -- `moved::lay_middle` meets its contract: the letters from where each run is seen are those that the window sees.
 use native.Mathlib.Omega.{arith}
-use mathlib.Core.Path.{_≡_, refl, sym, ap, _∙_}
+use mathlib.Core.Path.{_≡_, refl, sym}
 use Prim.Native.Nat.{ℕ, _+_, _-_, _≤_, _<_}
-use lib.ListN.{length, getD, set, length-set}
-use lib.Seq.{getD-set-same, getD-set-other}
-use mathlib.Core.Logic.{⊎-elim}
-use Rattle.letters.proofs.Cases.{le-or-lt}
+use lib.ListN.{length, getD, length-set}
 use borrow.Author.Needs.{needs}
-use Rattle.sums.specs.Sums.{startOf}
 use Rattle.sums.proofs.Filled.{filled-more}
 use Rattle.sums.proofs.Sums.{fits-at}
-use Rattle.sequences.specs.Steps.Windows.{Summed}
-use Rattle.sequences.specs.Steps.MovedRuns.{runLetter}
-use Rattle.sequences.proofs.Summing.{summed-none, summed-more}
-use Rattle.sequences.proofs.MovedRuns.{run-seen, leads-at, seen-inside, middle-summed}
+use Rattle.sequences.proofs.MovedRuns.{leads-at, seen-inside, middle-summed}
 use Rattle.sequences.proofs.moved.lay_middle.Statement.{statement}
 use Rattle.sequences.proofs.moved.lay_middle.Tie as tie
-use Rattle.sequences.proofs.moved.lay_middle.Reads as reads
-use Rattle.sequences.proofs.moved.lay_middle.Lts as lts
-use Rattle.sums.proofs.lay.Reads as lay-reads
 
 abbrev Inv-loop : tie.InvT-loop
 Inv-loop into from size starts leads sources skip seen₀ u₀ seen u = (u ≤ sources) × (length seen ≡ 16) × ((i : ℕ) → i < u → getD seen i 0 ≡ getD starts i 0 + (skip - getD leads i 0))

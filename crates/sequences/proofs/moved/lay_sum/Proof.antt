@@ -1,17 +1,11 @@
 -- `moved::lay_sum` meets its contract: the window's three parts come back one after another, each summed up.
 use native.Mathlib.Omega.{arith}
-use mathlib.Core.Path.{_≡_, refl, sym, ap, _∙_}
-use Prim.Native.Nat.{ℕ, _+_, _-_, _≤_, _<_}
+use Prim.Native.Nat.{_-_}
 use mathlib.Core.List.{[]}
-use lib.ListN.{length}
 use Rattle.sequences.proofs.MovedRuns.{all-seen-on, part-length, kept₁, three-parts}
 use borrow.Author.Needs.{needs}
 use Rattle.sequences.proofs.moved.lay_sum.Statement.{statement}
 use Rattle.sequences.proofs.moved.lay_sum.Tie as tie
-use Rattle.sequences.proofs.moved.lay_sum.Reads as reads
-use Rattle.sequences.proofs.moved.lay_sum.Lts as lts
-use Rattle.sequences.proofs.moved.add_each.Reads as add-each-reads
-use Rattle.sequences.proofs.moved.lay_middle.Reads as lay-middle-reads
 
 sub-add-each : tie.Need-sub-add-each
 sub-add-each c = search needs

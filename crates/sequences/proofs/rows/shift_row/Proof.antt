@@ -7,9 +7,6 @@ use Rattle.shifts.specs.Rule.{t}
 use Rattle.sums.proofs.Filled.{filled-more}
 use Rattle.sequences.proofs.rows.shift_row.Statement.{statement}
 use Rattle.sequences.proofs.rows.shift_row.Tie as tie
-use Rattle.sequences.proofs.rows.shift_row.Reads as reads
-use Rattle.sequences.proofs.rows.shift_row.Lts as lts
-use Rattle.shifts.proofs.shift_in.Reads as shift-in-reads
 
 abbrev Inv-loop : tie.InvT-loop
 Inv-loop table node row₀ j₀ row j = (j ≤ 16) × (length row ≡ 16) × ((i : ℕ) → i < j → getD row i 0 ≡ t node (i + 1))

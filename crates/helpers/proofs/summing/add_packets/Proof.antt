@@ -1,4 +1,4 @@
--- `helping::sum_packets` meets its contract: after each turn one packet more is in the sum, and `end` is where the next one starts.
+-- `summing::add_packets` meets its contract: after each turn one packet more is in the sum, and `end` is where the next one starts.
 use mathlib.Core.Path.{_≡_, refl, sym, ap₂, subst, _∙_}
 use mathlib.Core.List.{List}
 use Prim.Native.Nat.{ℕ, _≤_, _+_, _-_}
@@ -16,8 +16,8 @@ use Rattle.matrix.proofs.Product.{packet-same, packet-first, packet-next}
 use Rattle.sequences.proofs.Summing.{part-adds, summed-none, summed-more, summed-run}
 use borrow.Author.Needs.{needs}
 use native.Mathlib.Omega.{arith}
-use Rattle.helpers.proofs.helping.sum_packets.Statement.{statement}
-use Rattle.helpers.proofs.helping.sum_packets.Tie as tie
+use Rattle.helpers.proofs.summing.add_packets.Statement.{statement}
+use Rattle.helpers.proofs.summing.add_packets.Tie as tie
 
 -- a packet is a part of what the helper holds, which the window sees moved right by the lost node's shift
 packet-adds :
@@ -101,8 +101,8 @@ returns c = let l = c .before .before in
     (subst (λ m. Summed m (t (a .helper) (a .rank)) (t (a .lost)) (heldLetter xors (a .g) (a .helper) (a .packets .now)) (l .loop .piece)) done (l .loop .inv .3))
     (λ p. refl)
 
-pub sum-packets-spec : {M : Type 1} → statement M
-sum-packets-spec =
+pub add-packets-spec : {M : Type 1} → statement M
+add-packets-spec =
     tie.close
     (tie.spec
     Inv-loop
