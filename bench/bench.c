@@ -1,5 +1,6 @@
 /* Each call of the library beside its plain C version, on the same letters, compared. With the word `time` each is timed; with `count`, under
- * valgrind's callgrind or under bench/count.c, its instructions are counted. bench/run makes the table. */
+ * valgrind's callgrind or under bench/count.c, its instructions are counted. With the word `packets` after it, encode, recover, help and repair alone.
+ * bench/run makes the tables. */
 #include "../include/dulvaspen.h"
 #include "plain.h"
 /* run addition alone, of the crate bench_runs */
@@ -19,8 +20,8 @@ extern uint64_t bench_add_within(uint8_t *buffer, uint64_t buffer_len, uint64_t 
 #define AFTER_CALL(NAME) CALLGRIND_DUMP_STATS_AT(NAME)
 #endif
 
-static uint8_t file[1 << 20], got[1 << 20], want[1 << 20], input[1 << 20], node_packets[17][1 << 17], share[1 << 17];
-static uint64_t held[17], count_ours, count_plain, head_ours[6], head_plain[6], state[DULVASPEN_ARRIVING_WORDS];
+static uint8_t file[1 << 20], got[1 << 20], want[1 << 20], in_blocks[1 << 20], input[1 << 20], node_packets[17][1 << 17], share[1 << 17];
+static uint64_t held[17], count_ours, count_plain, count_blocks, head_ours[6], head_plain[6], state[DULVASPEN_ARRIVING_WORDS];
 static group g;
 
 static void stop(const char *what, uint64_t r) { fprintf(stderr, "bench: %s went wrong (%llu)\n", what, (unsigned long long)r); exit(1); }
@@ -51,6 +52,12 @@ static void compare(const char *name, uint64_t letters, uint64_t additions) {
     if (memcmp(got, want, letters)) stop(name, 99);
     printf("size %s %llu,%llu,%llu %llu %llu %llu\n", name, (unsigned long long)g.n, (unsigned long long)g.k, (unsigned long long)g.d,
            (unsigned long long)g.l, (unsigned long long)letters, (unsigned long long)additions);
+}
+
+/* The additions of sums of several runs, which the table of these divides by: for recovery those outside the solver. */
+static void summed(const char *name, uint64_t additions) {
+    printf("summed %s %llu,%llu,%llu %llu %llu\n", name, (unsigned long long)g.n, (unsigned long long)g.k, (unsigned long long)g.d, (unsigned long long)g.l,
+           (unsigned long long)additions);
 }
 
 /* A run of so many letters added into another buffer, and to earlier letters of its own. */
@@ -90,11 +97,41 @@ static void packets(uint64_t letters) {
     }
     MEASURE("encode", "ours", got, held[node], dulvaspen_encode(g.n, g.k, g.d, g.l, node, file, letters, got, held[node]));
     MEASURE("encode", "plain", want, held[node], plain_encode(g, node, file, letters, want, held[node]));
+    MEASURE("encode", "blocks", in_blocks, held[node], plain_encode_blocks(g, node, file, letters, in_blocks, held[node]));
+    if (memcmp(got, in_blocks, held[node])) stop("encode in blocks", 98);
     compare("encode", held[node], made);
+    summed("encode", made);
+}
+
+/* At odd lengths, with blocks and without, plain C in blocks must leave what the library does: for every node, and for every helper and rank of a
+ * lost one. */
+static void odd_lengths(void) {
+    static const uint64_t lengths[] = {1, 127, 129, 333};
+    for (int i = 0; i < 4; i++) {
+        uint64_t letters, length, lost = 1 + g.n / 2;
+        g.l = lengths[i];
+        dulvaspen_file_letters(g.n, g.k, g.d, g.l, &letters);
+        dulvaspen_repair_letters(g.n, g.k, g.d, g.l, lost, &length);
+        for (uint64_t h = 1; h <= g.n; h++) {
+            dulvaspen_packet_letters(g.n, g.k, g.d, g.l, h, &held[h]);
+            if (dulvaspen_encode(g.n, g.k, g.d, g.l, h, file, letters, got, held[h]) || plain_encode_blocks(g, h, file, letters, want, held[h])
+                || memcmp(got, want, held[h])) stop("encode in blocks", g.l);
+            memcpy(node_packets[h], got, held[h]);
+            for (uint64_t rank = 1; rank <= g.d && h != lost; rank++)
+                if (dulvaspen_help(g.n, g.k, g.d, g.l, lost, h, rank, node_packets[h], held[h], got, length)
+                    || plain_help_blocks(g, lost, h, rank, node_packets[h], held[h], want, length) || memcmp(got, want, length)) stop("help in blocks", g.l);
+        }
+        memcpy(got, file, letters); /* any letters are some file's pieces */
+        memcpy(want, file, letters);
+        uint64_t ids[16];
+        for (uint64_t v = 1; v <= g.k; v++) ids[v - 1] = g.n + 1 - v;
+        if (dulvaspen_recover(g.n, g.k, g.d, g.l, ids, g.k, got, letters, &count_ours) || plain_recover_blocks(g, ids, g.k, want, letters, &count_blocks)
+            || count_ours != count_blocks || memcmp(got, want, letters)) stop("recover in blocks", g.l);
+    }
 }
 
 static void recovery(uint64_t letters) {
-    uint64_t ids[16], from, to;
+    uint64_t ids[16], from, to, outside = 0;
     for (uint64_t v = 1; v <= g.k; v++) ids[v - 1] = g.n + 1 - v;
     for (uint64_t v = 1; v <= g.k; v++)
         for (uint64_t u = v; u <= g.d; u++) {
@@ -104,8 +141,16 @@ static void recovery(uint64_t letters) {
         }
     MEASURE("recover", "ours", got, letters, dulvaspen_recover(g.n, g.k, g.d, g.l, ids, g.k, got, letters, &count_ours));
     MEASURE("recover", "plain", want, letters, plain_recover(g, ids, g.k, want, letters, &count_plain));
-    if (count_ours != count_plain || memcmp(got, file, letters)) stop("recover", 98);
+    MEASURE("recover", "blocks", in_blocks, letters, plain_recover_blocks(g, ids, g.k, in_blocks, letters, &count_blocks));
+    if (count_ours != count_plain || count_ours != count_blocks || memcmp(got, file, letters) || memcmp(in_blocks, file, letters)) stop("recover", 98);
     compare("recover", letters, count_ours);
+    for (uint64_t u = 2; u <= g.d; u++)
+        for (uint64_t v = 1; v < u && v <= g.k; v++)
+            for (uint64_t w = 1; w <= v; w++) {
+                uint64_t moved = (ids[w - 1] - 1) * (u - w);
+                outside += moved < g.l ? g.l - moved : 0;
+            }
+    summed("recover", outside);
 }
 
 static void repair(void) {
@@ -119,7 +164,10 @@ static void repair(void) {
     }
     MEASURE("help", "ours", got, length, dulvaspen_help(g.n, g.k, g.d, g.l, lost, h, 1, node_packets[h], held[h], got, length));
     MEASURE("help", "plain", want, length, plain_help(g, lost, h, 1, node_packets[h], held[h], want, length));
+    MEASURE("help", "blocks", in_blocks, length, plain_help_blocks(g, lost, h, 1, node_packets[h], held[h], in_blocks, length));
+    if (memcmp(got, in_blocks, length)) stop("help in blocks", 98);
     compare("help", length, made);
+    summed("help", made);
     for (u = 1; u <= g.d; u++)
         dulvaspen_help(g.n, g.k, g.d, g.l, lost, helpers[u - 1], u, node_packets[helpers[u - 1]], held[helpers[u - 1]], input + (u - 1) * length, length);
     MEASURE("repair", "ours", got, g.d * length, dulvaspen_repair(g.n, g.k, g.d, g.l, lost, helpers, g.d, got, g.d * length, &count_ours));
@@ -183,12 +231,17 @@ int main(int argc, char **argv) {
     static const group groups[] = {{6, 3, 4, 0}, {16, 4, 6, 0}, {16, 10, 12, 0}, {16, 15, 15, 0}};
     static const uint64_t lengths[] = {64, 4096}, run_lengths[] = {7, 64, 100, 4096};
     uint64_t letters;
-    if (argc != 2 || (strcmp(argv[1], "time") && strcmp(argv[1], "count"))) { fprintf(stderr, "bench: say time or count\n"); return 2; }
+    int packets_alone = argc == 3 && !strcmp(argv[2], "packets");
+    if (argc != 2 + packets_alone || (strcmp(argv[1], "time") && strcmp(argv[1], "count"))) {
+        fprintf(stderr, "bench: say time or count, and then packets or nothing\n");
+        return 2;
+    }
     timing = !strcmp(argv[1], "time");
     for (uint64_t i = 0; i < sizeof file; i++) file[i] = (uint8_t)(i * 131 + (i >> 7) * 29 + (i >> 13));
     MEASURE("nothing", "ours", got, 0, 0);
-    for (int i = 0; i < 4; i++) runs(run_lengths[i]);
-    short_runs();
+    for (int i = 0; i < 4 && !packets_alone; i++) runs(run_lengths[i]);
+    if (!packets_alone) short_runs();
+    for (int i = 0; i < 4 && !packets_alone; i++) { g = groups[i]; odd_lengths(); }
     for (int i = 0; i < 4; i++)
         for (int j = 0; j < 2; j++) {
             g = groups[i];
@@ -197,7 +250,7 @@ int main(int argc, char **argv) {
             packets(letters);
             recovery(letters);
             repair();
-            shares();
+            if (!packets_alone) shares();
         }
     return 0;
 }

@@ -3,6 +3,7 @@
 
 static uint64_t t(uint64_t i, uint64_t j) { return (i - 1) * (j - 1); }
 static uint64_t least(uint64_t a, uint64_t b) { return a < b ? a : b; }
+static uint64_t gap(uint64_t a, uint64_t b) { return a > b ? a - b : 0; }
 
 /* ---- lengths and checks ---- */
 static uint64_t before(uint64_t k, uint64_t u) { /* sequences in the columns before u */
@@ -76,9 +77,9 @@ uint64_t plain_help(group g, uint64_t lost, uint64_t helper, uint64_t rank, cons
 }
 
 /* ---- the solver: rounds with a test of each place at both ends, and rounds without tests between them ---- */
-static uint64_t gap(uint64_t a, uint64_t b) { return a > b ? a - b : 0; }
 
-static uint64_t solve(uint8_t *part, uint64_t s, uint64_t n, const uint64_t *ids) {
+/* Never laid into its callers, so that callgrind can tell what is spent in it. */
+__attribute__((noinline)) static uint64_t solve(uint8_t *part, uint64_t s, uint64_t n, const uint64_t *ids) {
     uint64_t delay[16] = {0}, start[16][16], lead = 0, count = 0;
     for (uint64_t u = 1; u < s; u++) delay[u] = delay[u - 1] + ids[u] - 1;
     for (uint64_t u = 0; u < s; u++) {
@@ -138,6 +139,111 @@ uint64_t plain_repair(group g, uint64_t lost, const uint64_t *helpers, uint64_t 
     for (uint64_t i = 0; i < helpers_len; i++) if (helpers[i] == lost) return 4;
     if (buffer_len != node_letters(g, lost)) return 5;
     *count = solve(buffer, g.d, piece_letters(g, lost), helpers);
+    return 0;
+}
+
+/* ---- the same in blocks: where every run of a sum has a letter, the sum is made in a local array, block by block, and laid down once; the ends
+ * go run by run, and so does all of it where there is no whole block ---- */
+enum { BLOCK = 128 }; /* fewer instructions than 64 */
+typedef uint8_t sixteen __attribute__((vector_size(16), aligned(1), may_alias)); /* bytes one by one, gcc 12 would leave in memory */
+static uint64_t blocks(uint64_t start, uint64_t end) { return gap(end, start) / BLOCK * BLOCK; } /* letters from start to end, in whole blocks */
+
+/* to = the sum of the runs; or where on is set, to and the runs. */
+static inline void sum_blocks(int on, uint8_t *restrict to, uint64_t letters, const uint8_t *const *from, uint64_t runs) {
+    for (uint64_t p = 0; p < letters; p += BLOCK) {
+        sixteen sum[BLOCK / 16];
+        memcpy(sum, (on ? to : from[0]) + p, BLOCK);
+        for (uint64_t r = !on; r < runs; r++) {
+            sixteen run[BLOCK / 16];
+            memcpy(run, from[r] + p, BLOCK);
+            for (int i = 0; i < BLOCK / 16; i++) sum[i] ^= run[i];
+        }
+        memcpy(to + p, sum, BLOCK);
+    }
+}
+
+uint64_t plain_encode_blocks(group g, uint64_t node, const uint8_t *file, uint64_t file_len, uint8_t *packets, uint64_t packets_len) {
+    if (g.l < BLOCK) return plain_encode(g, node, file, file_len, packets, packets_len);
+    uint64_t r = check_node(g, node), length = piece_letters(g, node);
+    if (r) return r;
+    if (file_len != file_letters(g)) return 5;
+    if (packets_len != node_letters(g, node)) return 6;
+    for (uint64_t j = 1; j <= g.d; j++, packets += length) {
+        uint64_t rows = j > g.k ? g.k : g.d, start = t(node, rows), middle = blocks(start, g.l), stop = start + middle;
+        const uint8_t *from[16];
+        memset(packets, 0, middle ? start : length);
+        if (middle) memset(packets + stop, 0, length - stop);
+        for (uint64_t u = 1; u <= rows; u++) {
+            const uint8_t *run = file + (u <= j ? entry(g, u, j) : entry(g, j, u));
+            uint64_t at = t(node, u);
+            if (!middle) { add(packets + at, run, g.l); continue; }
+            add(packets + at, run, start - at);
+            add(packets + stop, run + (stop - at), at + g.l - stop);
+            from[u - 1] = run + (start - at);
+        }
+        if (middle) sum_blocks(0, packets + start, middle, from, rows);
+    }
+    return 0;
+}
+
+/* A function of its own, in which gcc 12 moves fewer registers about. */
+__attribute__((noinline)) static void sum_of_packets(uint8_t *restrict to, uint64_t letters, const uint8_t *const *from, uint64_t runs) {
+    sum_blocks(0, to, letters, from, runs);
+}
+
+uint64_t plain_help_blocks(group g, uint64_t lost, uint64_t helper, uint64_t rank, const uint8_t *packets, uint64_t packets_len, uint8_t *piece,
+                           uint64_t piece_len) {
+    uint64_t length = piece_letters(g, helper), skip = t(helper, rank), start = gap(t(lost, g.d), skip);
+    uint64_t middle = blocks(start, least(piece_letters(g, lost), length - skip)), stop = start + middle;
+    if (!middle) return plain_help(g, lost, helper, rank, packets, packets_len, piece, piece_len);
+    uint64_t r = check_node(g, lost);
+    if (r) return r;
+    if (helper < 1 || helper > g.n || rank < 1 || rank > g.d) return 3;
+    if (helper == lost) return 4;
+    if (packets_len != node_letters(g, helper)) return 5;
+    if (piece_len != piece_letters(g, lost)) return 6;
+    const uint8_t *from[16];
+    memset(piece, 0, start);
+    memset(piece + stop, 0, piece_len - stop);
+    for (uint64_t j = 1; j <= g.d; j++, packets += length) {
+        uint64_t lead = t(lost, j), at = gap(lead, skip);
+        const uint8_t *run = packets + gap(skip, lead);
+        add(piece + at, run, start - at);
+        add(piece + stop, run + (stop - at), least(piece_len, length + lead - skip) - stop);
+        from[j - 1] = run + (start - at);
+    }
+    sum_of_packets(piece + start, middle, from, g.d);
+    return 0;
+}
+
+/* Each column loses the later ones just before it is solved, in place of being lessened by each as soon as that is solved. */
+uint64_t plain_recover_blocks(group g, const uint64_t *ids, uint64_t ids_len, uint8_t *buffer, uint64_t buffer_len, uint64_t *count) {
+    if (g.l < BLOCK) return plain_recover(g, ids, ids_len, buffer, buffer_len, count);
+    uint64_t r = check_group(g), made = 0;
+    if (!r) r = check_ids(g, g.k, ids, ids_len);
+    if (!r && buffer_len != file_letters(g)) r = 5;
+    if (r) return r;
+    for (uint64_t v = g.d; v > 0; v--) {
+        for (uint64_t w = 1; v <= g.k && w <= v; w++) {
+            uint8_t *to = buffer + entry(g, w, v);
+            uint64_t step = ids[w - 1] - 1, reached = least(g.d, w + (step ? (g.l - 1) / step : g.d)); /* the last column that is moved by less than L */
+            if (reached <= v) continue;
+            uint64_t start = step * (reached - w), middle = blocks(start, g.l), stop = start + middle;
+            const uint8_t *from[16];
+            for (uint64_t u = v + 1; u <= reached; u++) {
+                const uint8_t *run = buffer + entry(g, v, u);
+                uint64_t at = step * (u - w);
+                made += g.l - at;
+                if (!middle) { add(to + at, run, g.l - at); continue; }
+                add(to + at, run, start - at);
+                add(to + stop, run + (stop - at), g.l - stop);
+                from[u - v - 1] = run + (start - at);
+            }
+            if (middle) sum_blocks(1, to + start, middle, from, reached - v);
+        }
+        made += solve(buffer + entry(g, 1, v), least(v, g.k), g.l, ids);
+    }
+    *count = made;
     return 0;
 }
 
