@@ -1,2 +1,2 @@
--- A solved column taken out of those before it.
+-- What the later columns put into a column, taken out of it.
 pub mod Steps

@@ -1,69 +1,143 @@
-// A solved column taken out of the columns before it.
+// What the later columns, solved already, put into a column, taken out of it before it is solved itself.
 use group::Group;
 use matrix::entries;
-ghost use Prim.Native.Nat.{_+_, _-_, _≤_, min};
+ghost use mathlib.Core.Path.{_≡_};
+ghost use mathlib.Core.List.{List};
+ghost use Prim.Native.Nat.{ℕ, _+_, _-_, _≤_, min};
+ghost use lib.ListN.{length};
 ghost use Rattle.shifts.specs.Rule.{t};
-ghost use Rattle.group.specs.Ranges.{longest};
+ghost use Rattle.group.specs.Ranges.{widest};
+ghost use Rattle.lengths.specs.Lengths.{fileLetters};
 ghost use Rattle.sequences.specs.Steps.Rows.{RowsOf};
-ghost use Rattle.columns.specs.Steps.Columns.{entriesMost, columnMost, Collected, PushedRun, PushedInto, Pushed};
+ghost use Rattle.matrix.specs.Pieces.{Chosen};
+ghost use Rattle.columns.specs.Steps.Columns.{entryMost, columnMost, movedBy, fromColumn, fromNext, entryWorth, pullWorth, Collected, Entry, Grown, Pulled};
 
-// Takes column `u`, which is solved, out of the columns before it: entry (w,c) loses m(c,u) moved by t(iw,u) - t(iw,w).
-pub fn push_column(g: Group, ids: &[usize], rows: &[usize], u: usize, buffer: &mut [u8]) -> usize
-    requires { ⌜ (Collected g (now ids) (now buffer)) × (RowsOf t (now ids) (now rows)) × (1 ≤ u) × (u ≤ g .d) ⌝ }
-    ensures { λ r. ⌜ Pushed g (now (ids .entry)) u (min (u - 1) (g .k)) (now (buffer .entry)) (now (buffer .exit)) r ⌝ }
+// Takes the columns after column `v`, which are solved, out of it: entry (w,v) loses each m(v,u) moved right by t(iw,u) - t(iw,w).
+// Past column k there is nothing to take: that is the matrix's zero corner. The answer is what the additions are worth in a count.
+pub fn pull_column(g: Group, ids: &[usize], rows: &[usize], v: usize, buffer: &mut [u8]) -> usize
+    requires { ⌜ (Collected g (now ids) (now buffer)) × (RowsOf t (now ids) (now rows)) × (1 ≤ v) × (v ≤ g .d) ⌝ }
+    ensures { λ r. ⌜ Pulled g (now (ids .entry)) v (min v (g .k)) (now (buffer .entry)) (now (buffer .exit)) ⌝ }
+    ensures count { λ r. ⌜ r ≡ pullWorth g (now (ids .entry)) (now (buffer .entry)) v ⌝ }
     ensures bound { λ r. ⌜ r ≤ columnMost ⌝ }
 {
-    let columns = letters::lesser(u - 1, g.k);
-    let mut count: usize = 0;
-    let mut c = 0;
-    while c < columns {
-        c += 1;
-        count += push_into(g, ids, rows, u, c, buffer);
-    }
-    count
-}
-
-// The same for one earlier column.
-fn push_into(
-    g: Group,
-    ids: &[usize],
-    rows: &[usize],
-    u: usize,
-    c: usize,
-    buffer: &mut [u8],
-) -> usize
-    requires { ⌜ (Collected g (now ids) (now buffer)) × (RowsOf t (now ids) (now rows)) × (1 ≤ c) × (c + 1 ≤ u) × (c ≤ g .k) × (u ≤ g .d) ⌝ }
-    ensures { λ r. ⌜ PushedInto g (now (ids .entry)) u c c (now (buffer .entry)) (now (buffer .exit)) r ⌝ }
-    ensures bound { λ r. ⌜ r ≤ entriesMost ⌝ }
-{
-    let mut count: usize = 0;
-    let mut w = 0;
-    while w < c {
-        w += 1;
-        count += push_run(g, ids, rows, u, c, w, buffer);
-    }
-    count
-}
-
-// The same for one entry of it. The shifts are read in the rows, so that the ids stand in the contract alone.
-fn push_run(
-    g: Group,
-    ids: &[usize],
-    rows: &[usize],
-    u: usize,
-    c: usize,
-    w: usize,
-    buffer: &mut [u8],
-) -> usize
-    requires { ⌜ (Collected g (now ids) (now buffer)) × (RowsOf t (now ids) (now rows)) × (1 ≤ w) × (w ≤ c) × (c + 1 ≤ u) × (c ≤ g .k) × (u ≤ g .d) ⌝ }
-    ensures { λ r. ⌜ PushedRun g (now (ids .entry)) u c w (now (buffer .entry)) (now (buffer .exit)) r ⌝ }
-    ensures bound { λ r. ⌜ r ≤ longest ⌝ }
-{
-    let moved = equation::place::shift_in(rows, w, u) - equation::place::shift_in(rows, w, w);
-    if g.l <= moved {
+    if g.k < v {
         return 0;
     }
-    let to = entries::free_start(g, w, c) + moved;
-    let from = entries::free_start(g, c, u);
-    letters::add_within(buffer, to, from, g.l - moved)
+    let mut count: usize = 0;
+    let mut w = 0;
+    while w < v {
+        w += 1;
+        pull_entry(g, ids, rows, v, w, buffer);
+        count += terms(g, ids, rows, v, w);
+    }
+    count
+}
+
+// What it is worth to take all later columns out of one entry, whatever the letters: each of its terms counts as one.
+fn terms(g: Group, ids: &[usize], rows: &[usize], v: usize, w: usize) -> usize
+    requires { ⌜ Entry g (now ids) (now rows) v w ⌝ }
+    ensures { λ r. ⌜ ((buffer : List ℕ) → r ≡ entryWorth g (now (ids .entry)) buffer v w) ⌝ }
+    ensures bound { λ r. ⌜ r ≤ entryMost ⌝ }
+{
+    let mut count: usize = 0;
+    let mut u = v;
+    while u < g.d {
+        u += 1;
+        let moved = moved_by(g, ids, rows, w, u);
+        if moved < g.l {
+            count += g.l - moved;
+        }
+    }
+    count
+}
+
+// Takes all later columns out of one entry. Behind the place that the last of them is moved to, each letter has a letter of every one of them:
+// that part is written in one pass, if it has a whole block and there is more than one of them. All else goes in run by run.
+fn pull_entry(g: Group, ids: &[usize], rows: &[usize], v: usize, w: usize, buffer: &mut [u8])
+    requires { ⌜ (Entry g (now ids) (now rows) v w) × (length (now buffer) ≡ fileLetters g) ⌝ }
+    ensures { λ r. ⌜ Grown g v w 0 (g .l) (fromNext g (now (ids .entry)) (now (buffer .entry)) v w (g .d - v)) (now (buffer .entry)) (now (buffer .exit)) ⌝ }
+{
+    let wide = moved_by(g, ids, rows, w, g.d);
+    if g.l < wide + sums::BLOCK || g.d < v + 2 {
+        pull_runs(g, ids, rows, v, w, g.l, buffer);
+    } else {
+        pull_runs(g, ids, rows, v, w, wide, buffer);
+        pull_blocks(g, ids, rows, v, w, wide, buffer);
+    }
+}
+
+// Takes all later columns out of one entry up to place `end`, one after another.
+fn pull_runs(
+    g: Group,
+    ids: &[usize],
+    rows: &[usize],
+    v: usize,
+    w: usize,
+    end: usize,
+    buffer: &mut [u8],
+)
+    requires { ⌜ (Entry g (now ids) (now rows) v w) × (length (now buffer) ≡ fileLetters g) × (end ≤ g .l) ⌝ }
+    ensures { λ r. ⌜ Grown g v w 0 end (fromNext g (now (ids .entry)) (now (buffer .entry)) v w (g .d - v)) (now (buffer .entry)) (now (buffer .exit)) ⌝ }
+{
+    let mut u = v;
+    while u < g.d {
+        u += 1;
+        pull_run(g, ids, rows, v, w, u, end, buffer);
+    }
+}
+
+// The same for one later column.
+fn pull_run(
+    g: Group,
+    ids: &[usize],
+    rows: &[usize],
+    v: usize,
+    w: usize,
+    u: usize,
+    end: usize,
+    buffer: &mut [u8],
+)
+    requires { ⌜ (Entry g (now ids) (now rows) v w) × (length (now buffer) ≡ fileLetters g) × (v + 1 ≤ u) × (u ≤ g .d) × (end ≤ g .l) ⌝ }
+    ensures { λ r. ⌜ Grown g v w 0 end (fromColumn g (now (ids .entry)) (now (buffer .entry)) v w u) (now (buffer .entry)) (now (buffer .exit)) ⌝ }
+{
+    let moved = moved_by(g, ids, rows, w, u);
+    if end <= moved {
+        return;
+    }
+    let to = entries::free_start(g, w, v) + moved;
+    let from = entries::free_start(g, v, u);
+    letters::add_within(buffer, to, from, end - moved);
+}
+
+// Takes all later columns out of one entry behind place `wide`, to which the last of them is moved, in one pass. The entry itself is the first of the runs that are summed.
+fn pull_blocks(
+    g: Group,
+    ids: &[usize],
+    rows: &[usize],
+    v: usize,
+    w: usize,
+    wide: usize,
+    buffer: &mut [u8],
+)
+    requires { ⌜ (Entry g (now ids) (now rows) v w) × (length (now buffer) ≡ fileLetters g) × (wide ≡ movedBy (now ids) w (g .d)) × (wide ≤ g .l) ⌝ }
+    ensures { λ r. ⌜ Grown g v w wide (g .l) (fromNext g (now (ids .entry)) (now (buffer .entry)) v w (g .d - v)) (now (buffer .entry)) (now (buffer .exit)) ⌝ }
+{
+    let to = entries::free_start(g, w, v) + wide;
+    let mut starts = [0usize; 16];
+    starts[0] = to;
+    let mut u = v;
+    while u < g.d {
+        u += 1;
+        let moved = moved_by(g, ids, rows, w, u);
+        starts[u - v] = entries::free_start(g, v, u) + wide - moved;
+    }
+    sums::lay_within(buffer, to, &starts, 1 + g.d - v, g.l - wide);
+}
+
+// How far column `u` is moved to the right in the piece of rank `w`. The shifts are read in the rows, so that the ids stand in the contract alone.
+fn moved_by(g: Group, ids: &[usize], rows: &[usize], w: usize, u: usize) -> usize
+    requires { ⌜ (Chosen g (g .k) (now ids)) × (RowsOf t (now ids) (now rows)) × (1 ≤ w) × (w ≤ g .k) × (w ≤ u) × (u ≤ g .d) ⌝ }
+    ensures { λ r. ⌜ (r ≡ movedBy (now (ids .entry)) w u) × (r ≤ widest) ⌝ }
+{
+    equation::place::shift_in(rows, w, u) - equation::place::shift_in(rows, w, w)
 }

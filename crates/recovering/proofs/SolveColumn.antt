@@ -4,9 +4,8 @@ use mathlib.Core.Bool.{Bool, true, false, cond}
 use mathlib.Core.List.{List}
 use mathlib.Core.Logic.{⊎-elim}
 use Prim.Native.Nat.{ℕ, _+_, _-_, _*_, _≤_, _<_, min}
-use native.Mathlib.Nat.{add-mul, mul-le-mul, mul-le-mul-right, add-assoc, mul-one, eq-or-lt-of-le}
+use native.Mathlib.Nat.{add-mul, mul-le-mul, mul-le-mul-right, add-comm, add-assoc, mul-one, eq-or-lt-of-le}
 use native.Mathlib.Omega.{arith}
-use lib.Bits.{bitXor}
 use lib.Dec.{eqb}
 use lib.ListN.{length, getD, take, drop, length-drop}
 use lib.Seq.{getD-take, getD-drop, length-take-le}
@@ -15,10 +14,10 @@ use Rattle.letters.specs.Places.{inside}
 use Rattle.letters.specs.Worth.{worthOf}
 use Rattle.letters.proofs.Cases.{le-or-lt}
 use Rattle.letters.proofs.Places.{letter-same}
-use Rattle.letters.proofs.Sums.{sum-same, sum-at-most}
+use Rattle.letters.proofs.Sums.{sum-at-most}
 use Rattle.letters.proofs.Worth.{worthOf-at-most}
 use Rattle.system.specs.System.{sequence}
-use Rattle.system.specs.Count.{within, taken, ofEquation, additions}
+use Rattle.system.specs.Count.{taken, ofEquation, additions}
 use Rattle.equation.specs.Rows.{shiftIn}
 use Rattle.solving.specs.Solver.{Solved}
 use Rattle.system.proofs.System.{part-same, index-below}
@@ -28,7 +27,8 @@ use Rattle.group.specs.Ranges.{longest}
 use Rattle.lengths.specs.Lengths.{fileLetters}
 use Rattle.matrix.specs.Matrix.{before, entryNumber}
 use Rattle.sequences.specs.Steps.Rows.{RowsOf}
-use Rattle.columns.specs.Steps.Columns.{entriesMost, columnMost, standing, seenAt, Collected, runWorth, Pushed}
+use Rattle.columns.specs.Steps.Columns.{entryMost, columnMost, standing, pullWorth, Collected, Pulled}
+use Rattle.columns.proofs.Pulling.{same-worth}
 use Rattle.recovering.specs.Steps.Recovery.{columnWorth, Column}
 use Rattle.matrix.proofs.ChosenRanks.{ranks}
 use Rattle.sequences.proofs.Charted.{additions-same, charted-part, charted-additions}
@@ -160,56 +160,39 @@ module _ (g : Group) (ids buffer : List ℕ) (collected : Collected g ids buffer
           (omega (arith, columns-apart (g .k) (g .l) x u (omega arith) lx down, entry-within (g .k) (g .l) v x q lv hv h)))
           (le-or-lt u x))
 
+      -- the later columns were taken out of it before
       pub column-done :
-          (rows after : List ℕ) (count more : ℕ) → RowsOf t ids rows → Solved s (g .l) rows lent solution count
-          → Pushed g ids u (min (u - 1) (g .k)) middle after more → more ≤ columnMost → Column g ids u buffer after (count + more)
-      unfolding columnWorth runWorth
-      column-done rows after count more r solved push bound =
+          (rows came : List ℕ) (pulled count : ℕ) → RowsOf t ids rows → Pulled g ids u s came buffer → pulled ≡ pullWorth g ids came u → pulled ≤ columnMost
+          → Solved s (g .l) rows lent solution count → Column g ids u came middle (pulled + count)
+      unfolding columnWorth
+      column-done rows came pulled count r pull worths bound solved =
           record {
-            same-length = push .same-length ∙ middle-length;
+            same-length = middle-length ∙ pull .same-length;
             solved =
                 λ v p lv hv lp hp.
-                part-same xors s (shifts ids) (shifts ids) (λ a. standing g after a u) (sequence 0 solution (g .l)) v p
-                (λ a la ha. after-own a ((p + shifts ids v v) - shifts ids v a) la ha)
+                part-same xors s (shifts ids) (shifts ids) (λ a. standing g middle a u) (sequence 0 solution (g .l)) v p
+                (λ a la ha. middle-own a ((p + shifts ids v v) - shifts ids v a) la ha)
                 ∙ sym (charted-part t ids rows r (g .k) (ranks g (g .k) ids (collected .chosen) (omega arith)) s (omega arith) (omega arith) (sequence 0 solution (g .l)) v p lv hv)
                 ∙ solved .parts v p lv hv lp hp
-                ∙ lent-entry v p lv hv;
-            pushed =
-                λ c w p lc hc hk lw hw lp hp.
-                push .here c w p lc (omega arith) lw hw lp hp
-                ∙ ap₂ bitXor (middle-other w c p lc (λ e. omega arith) lw (omega arith)) (sym (still c (seenAt ids w u p) lc (omega arith)));
-            kept =
-                λ v x p lx hx past ne lv hv.
-                push .there v x p (past-columns x past ne) hx lv hv ∙ middle-other v x p lx ne lv hv;
+                ∙ lent-entry v p lv hv
+                ∙ pull .here v p lv hv lp hp;
+            kept = λ v x p lx hx ne lv hv. other-kept v x p lx hx ne lv hv;
             counted =
-                ap₂ _+_
+                add-comm pulled count
+                ∙ ap₂ _+_
                 (solved .counted
                 ∙ charted-additions t ids rows r (g .k) (ranks g (g .k) ids (collected .chosen) (omega arith)) s (omega arith) (omega arith) (g .l) (sequence 0 solution (g .l))
-                ∙ additions-same s (g .l) (shifts ids) (shifts ids) (sequence 0 solution (g .l)) (λ a. standing g after a u) (λ b a lb hb la ha. refl)
-                (λ a p la ha. sym (after-own a p la ha)))
-                (push .counted
-                ∙ sum-same counts (min (u - 1) (g .k)) (λ c. sum counts c (λ w. runWorth g ids middle u c w)) (λ c. sum counts c (λ w. runWorth g ids after u c w))
-                (λ c lc hc.
-                sum-same counts c (λ w. runWorth g ids middle u c w) (λ w. runWorth g ids after u c w)
-                (λ w lw hw.
-                sum-same counts (g .l) (λ p. within (g .l) (seenAt ids w u p) (worthOf (standing g middle c u (seenAt ids w u p))))
-                (λ p. within (g .l) (seenAt ids w u p) (worthOf (standing g after c u (seenAt ids w u p))))
-                (λ p lp hp. ap (λ z. within (g .l) (seenAt ids w u p) (worthOf z)) (sym (still c (seenAt ids w u p) lc (omega arith)))))));
+                ∙ additions-same s (g .l) (shifts ids) (shifts ids) (sequence 0 solution (g .l)) (λ a. standing g middle a u) (λ b a lb hb la ha. refl)
+                (λ a p la ha. sym (middle-own a p la ha)))
+                (worths ∙ sym (same-worth g ids u came middle (λ x p low past hx. other-kept u x p (omega arith) hx (λ e. omega arith) lu (omega arith))));
             bound =
                 omega (
                   arith,
                   solved .counted,
                   additions-bound s (g .l) (shiftIn rows) (sequence 0 solution (g .l)),
-                  mul-le-mul {n₁ = s} {m₁ = g .l * s} {n₂ = 16} {m₂ = entriesMost} (omega arith) (mul-le-mul {n₁ = g .l} {m₁ = s} {n₂ = longest} {m₂ = 16} (omega arith) (omega arith)),
+                  mul-le-mul {n₁ = s} {m₁ = g .l * s} {n₂ = 16} {m₂ = entryMost} (omega arith) (mul-le-mul {n₁ = g .l} {m₁ = s} {n₂ = longest} {m₂ = 16} (omega arith) (omega arith)),
                 );
           }
         where
-          -- column u stays as it was solved while it is taken out of the others
-          still : (c p : ℕ) → 1 ≤ c → c ≤ s → standing g after c u p ≡ standing g middle c u p
-          still c p lc hc = push .there c u p (omega arith) hu lc hc
-
-          after-own : (a p : ℕ) → 1 ≤ a → a ≤ s → standing g after a u p ≡ sequence 0 solution (g .l) a p
-          after-own a p la ha = still a p la ha ∙ middle-own a p la ha
-
-          past-columns : (x : ℕ) → (x < u → g .k < x) → (x ≡ u → ⊥) → min (u - 1) (g .k) < x
-          past-columns x past ne = ⊎-elim (λ up. omega arith) (λ down. omega (arith, past down)) (le-or-lt u x)
+          other-kept : (v x p : ℕ) → 1 ≤ x → x ≤ g .d → (x ≡ u → ⊥) → 1 ≤ v → v ≤ min x (g .k) → standing g middle v x p ≡ standing g came v x p
+          other-kept v x p lx hx ne lv hv = middle-other v x p lx ne lv hv ∙ pull .there v x p lx hx lv hv (λ e. absurd (ne e))

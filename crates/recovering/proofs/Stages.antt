@@ -1,63 +1,44 @@
--- Recovery column by column, from the last one down: at the start nothing is done, each column that is solved and taken out of the earlier ones is one more, and in the end all have their pieces.
+-- Recovery column by column, from the last one down: at the start nothing is done, each column that is solved once the later ones are taken out of it is one more, and in the end all have their pieces.
 use mathlib.Core.Path.{_≡_, refl, sym, ap, ap₂, subst, _∙_}
 use mathlib.Core.List.{List}
 use mathlib.Core.Logic.{⊎-elim}
-use Prim.Native.Nat.{ℕ, _+_, _-_, _≤_, _<_, min}
+use Prim.Native.Nat.{ℕ, _+_, _-_, _≤_, min}
 use native.Mathlib.Nat.{add-comm, zero-add}
 use native.Mathlib.Omega.{arith}
-use lib.Bits.{bitXor, xor-comm, xor-zero-r}
-use Rattle.letters.specs.Algebra.{Adding, bytes, xors, counts, sum}
-use Rattle.letters.specs.Worth.{worthOf}
+use lib.Bits.{bitXor}
+use Rattle.letters.specs.Algebra.{bytes, xors, counts, sum}
 use Rattle.letters.proofs.Cases.{le-or-lt, eq-or-ne}
 use Rattle.letters.proofs.Sums.{sum-same, sum-none, sum-none-terms, plus-twice}
-use Rattle.system.specs.Count.{within}
 use Rattle.system.proofs.System.{part-same}
 use Rattle.group.specs.declared.Group.{Group}
 use Rattle.matrix.specs.Matrix.{matrix}
 use Rattle.matrix.specs.Pieces.{pieceLetter, reading}
 use Rattle.matrix.specs.Counts.{recoveryCount}
-use Rattle.recovering.proofs.ColumnCounts.{sum-first, columns-count}
-use Rattle.columns.specs.Steps.Columns.{standing, seenAt, Collected, runWorth}
+use Rattle.recovering.proofs.ColumnCounts.{columns-count}
+use Rattle.columns.specs.Steps.Columns.{standing, seenAt, fromColumn, fromNext, Collected}
+use Rattle.columns.proofs.MoreSums.{sum-first}
+use Rattle.columns.proofs.Pulling.{same-next, same-worth}
 use Rattle.recovering.specs.Steps.Recovery.{columnWorth, Column, Stage}
 use Rattle.sequences.proofs.Charted.{additions-same}
 use Rattle.matrix.proofs.Files.{is-asFile}
 use Rattle.matrix.proofs.Product.{corner, free}
 use Rattle.matrix.proofs.Reading.{shifts, later, piece-apart, later-corner, later-entries}
 
--- what the columns after u put into entry (v,x)
-abbrev rest : Group → List ℕ → List ℕ → ℕ → ℕ → ℕ → ℕ → ℕ
-rest g ids file u v x p = sum xors (g .d - u) (λ j. matrix xors g file x (u + j) (seenAt ids v (u + j) p))
-
 module _ (g : Group) (ids : List ℕ) where
-  -- past column k these are all in the zero corner
-  rest-corner : (file : List ℕ) (u v x p : ℕ) → g .k < x → x ≤ u → rest g ids file u v x p ≡ 0
-  rest-corner file u v x p h hx =
-      sum-none xors (g .d - u) (λ j. matrix xors g file x (u + j) (seenAt ids v (u + j) p))
-      (λ j lo hi. corner xors g file x (u + j) (seenAt ids v (u + j) p) h (omega arith))
-
-  -- into its own column they put what a piece of it has from later ones
-  later-rest : (file : List ℕ) (v u p : ℕ) → later xors g file ids v u p ≡ rest g ids file u v u p
-  later-rest file v u p =
+  -- what the later columns put into a piece is what they put into its entry
+  later-next : (file : List ℕ) (v u p : ℕ) → later xors g file ids v u p ≡ fromNext g ids file u v (g .d - u) p
+  later-next file v u p =
       ⊎-elim (λ low. later-entries xors g file ids v u p low)
-      (λ high. later-corner xors g file ids v u p high ∙ sym (rest-corner file u v u p high (omega arith))) (le-or-lt u (g .k))
+      (λ high.
+      later-corner xors g file ids v u p high
+      ∙ sym
+      (sum-none xors (g .d - u) (λ j. fromColumn g ids file u v (u + j) p)
+      (λ j lo hi. corner xors g file u (u + j) (seenAt ids v (u + j) p) high (omega arith))))
+      (le-or-lt u (g .k))
 
   -- two buffers that stand alike from column x on
   abbrev Alike : List ℕ → List ℕ → ℕ → Type 0
   Alike f f′ x = (v y p : ℕ) → x ≤ y → y ≤ g .d → 1 ≤ v → v ≤ min y (g .k) → standing g f v y p ≡ standing g f′ v y p
-
-  matrix-alike :
-      (f f′ : List ℕ) (x v y p : ℕ) → Alike f f′ x → x ≤ y → y ≤ g .d → 1 ≤ v → v ≤ y → matrix xors g f v y p ≡ matrix xors g f′ v y p
-  matrix-alike f f′ x v y p same lo hi lv hv =
-      ⊎-elim
-      (λ low. free xors g f v y p hv low ∙ same v y p lo hi lv (omega arith) ∙ sym (free xors g f′ v y p hv low))
-      (λ high. corner xors g f v y p high (omega arith) ∙ sym (corner xors g f′ v y p high (omega arith)))
-      (le-or-lt v (g .k))
-
-  rest-alike :
-      (f f′ : List ℕ) (u v x p : ℕ) → Alike f f′ (u + 1) → 1 ≤ x → x ≤ u → rest g ids f u v x p ≡ rest g ids f′ u v x p
-  rest-alike f f′ u v x p same lx hx =
-      sum-same xors (g .d - u) (λ j. matrix xors g f x (u + j) (seenAt ids v (u + j) p)) (λ j. matrix xors g f′ x (u + j) (seenAt ids v (u + j) p))
-      (λ j lo hi. matrix-alike f f′ (u + 1) x (u + j) (seenAt ids v (u + j) p) same (omega arith) (omega arith) lx (omega arith))
 
   piece-alike :
       (f f′ : List ℕ) (x v p : ℕ) → Alike f f′ x → 1 ≤ x → x ≤ g .d → pieceLetter xors g f ids v x p ≡ pieceLetter xors g f′ ids v x p
@@ -65,36 +46,29 @@ module _ (g : Group) (ids : List ℕ) where
       piece-apart xors g f ids v x p hx
       ∙ ap₂ bitXor
       (part-same xors (min x (g .k)) (shifts ids) (shifts ids) (λ a. matrix xors g f a x) (λ a. matrix xors g f′ a x) v p
-      (λ a la ha. matrix-alike f f′ x a x ((p + shifts ids v v) - shifts ids v a) same (omega arith) hx la (omega arith)))
-      (later-rest f v x p
-      ∙ rest-alike f f′ x v x p (λ w y q ly hy lw hw. same w y q (omega arith) hy lw hw) lx (omega arith)
-      ∙ sym (later-rest f′ v x p))
+      (λ a la ha.
+      free xors g f a x ((p + shifts ids v v) - shifts ids v a) (omega arith) (omega arith)
+      ∙ same a x ((p + shifts ids v v) - shifts ids v a) (omega arith) hx la ha
+      ∙ sym (free xors g f′ a x ((p + shifts ids v v) - shifts ids v a) (omega arith) (omega arith))))
+      (later-next f v x p
+      ∙ same-next g ids x f′ f (λ u q low past hu. same x u q (omega arith) hu lx (omega arith)) v p
+      ∙ sym (later-next f′ v x p))
       ∙ sym (piece-apart xors g f′ ids v x p hx)
 
   worth-alike : (f f′ : List ℕ) (x : ℕ) → Alike f f′ x → 1 ≤ x → x ≤ g .d → columnWorth g ids f x ≡ columnWorth g ids f′ x
-  unfolding columnWorth runWorth
+  unfolding columnWorth
   worth-alike f f′ x same lx hx =
       ap₂ _+_
       (additions-same (min x (g .k)) (g .l) (shifts ids) (shifts ids) (λ a. standing g f a x) (λ a. standing g f′ a x) (λ b a lb hb la ha. refl)
       (λ a p la ha. same a x p (omega arith) hx la ha))
-      (sum-same counts (min (x - 1) (g .k)) (λ c. sum counts c (λ w. runWorth g ids f x c w)) (λ c. sum counts c (λ w. runWorth g ids f′ x c w))
-      (λ c lc hc.
-      sum-same counts c (λ w. runWorth g ids f x c w) (λ w. runWorth g ids f′ x c w)
-      (λ w lw hw.
-      sum-same counts (g .l) (λ p. within (g .l) (seenAt ids w x p) (worthOf (standing g f c x (seenAt ids w x p))))
-      (λ p. within (g .l) (seenAt ids w x p) (worthOf (standing g f′ c x (seenAt ids w x p))))
-      (λ p lp hp. ap (λ z. within (g .l) (seenAt ids w x p) (worthOf z)) (same c x (seenAt ids w x p) (omega arith) hx lc (omega arith))))))
+      (same-worth g ids x f′ f (λ u q low past hu. same x u q (omega arith) hu lx (omega arith)))
 
   pub stage-start : (start : List ℕ) → Stage g ids (g .d) start start 0
   stage-start start =
       record {
         same-length = refl;
         done = λ x v p past hx lv hv lp hp. absurd (omega arith);
-        waiting =
-            λ x v p lx hx lv hv lp hp.
-            sym (xor-zero-r (standing g start v x p))
-            ∙ ap (bitXor (standing g start v x p))
-            (sym (ap (λ n. sum xors n (λ j. matrix xors g start x (g .d + j) (seenAt ids v (g .d + j) p))) none ∙ sum-none-terms xors (λ j. matrix xors g start x (g .d + j) (seenAt ids v (g .d + j) p))));
+        waiting = λ x v p lx hx lv hv. refl;
         counted =
             sym (ap (λ n. sum counts n (λ j. columnWorth g ids start (g .d + j))) none ∙ sum-none-terms counts (λ j. columnWorth g ids start (g .d + j)));
       }
@@ -107,14 +81,14 @@ module _ (g : Group) (ids : List ℕ) where
       (column : Column g ids u mid after more) where
     -- the later columns are as they were
     later-kept : Alike after mid (u + 1)
-    later-kept v y p ly hy lv hv = column .kept v y p (omega arith) hy (λ h. absurd (omega arith)) (λ e. omega arith) lv hv
+    later-kept v y p ly hy lv hv = column .kept v y p (omega arith) hy (λ e. omega arith) lv hv
 
-    -- a sum over the columns from u on, by its first
-    from-u : {A : Type 0} (𝓐 : Adding A) (f : ℕ → A) → sum 𝓐 (g .d - (u - 1)) (λ j. f (u - 1 + j)) ≡ 𝓐 .plus (f u) (sum 𝓐 (g .d - u) (λ j. f (u + j)))
-    from-u 𝓐 f =
-        ap (λ n. sum 𝓐 n (λ j. f (u - 1 + j))) size
-        ∙ sum-first 𝓐 (g .d - u) (λ j. f (u - 1 + j))
-        ∙ ap₂ (𝓐 .plus) (ap f one) (sum-same 𝓐 (g .d - u) (λ i. f (u - 1 + (1 + i))) (λ j. f (u + j)) (λ i lo hi. ap f (next i)))
+    -- the columns from u on, by their first
+    worth-from : (f : ℕ → ℕ) → sum counts (g .d - (u - 1)) (λ j. f (u - 1 + j)) ≡ f u + sum counts (g .d - u) (λ j. f (u + j))
+    worth-from f =
+        ap (λ n. sum counts n (λ j. f (u - 1 + j))) size
+        ∙ sum-first counts (g .d - u) (λ j. f (u - 1 + j))
+        ∙ ap₂ _+_ (ap f one) (sum-same counts (g .d - u) (λ i. f (u - 1 + (1 + i))) (λ j. f (u + j)) (λ i lo hi. ap f (next i)))
       where
         size : g .d - (u - 1) ≡ 1 + (g .d - u)
         size = omega arith
@@ -133,29 +107,9 @@ module _ (g : Group) (ids : List ℕ) where
         (part-same xors (min u (g .k)) (shifts ids) (shifts ids) (λ a. matrix xors g after a u) (λ a. standing g after a u) v p
         (λ a la ha. free xors g after a u ((p + shifts ids v v) - shifts ids v a) (omega arith) (omega arith))
         ∙ column .solved v p lv hv lp hp
-        ∙ stage .waiting u v p lu (omega arith) lv hv lp hp)
-        (later-rest after v u p ∙ rest-alike after mid u v u p later-kept lu (omega arith))
-        ∙ plus-twice bytes (standing g start v u p) (rest g ids mid u v u p)
-
-    -- an earlier column has what one column more put into it
-    still-waiting :
-        (x v p : ℕ) → 1 ≤ x → x < u → 1 ≤ v → v ≤ min x (g .k) → 1 ≤ p → p ≤ g .l
-        → standing g after v x p ≡ bitXor (standing g start v x p) (rest g ids after (u - 1) v x p)
-    still-waiting x v p lx hx lv hv lp hp =
-        ⊎-elim
-        (λ low.
-        column .pushed x v p lx hx low lv (omega arith) lp hp
-        ∙ ap₂ bitXor (stage .waiting x v p lx (omega arith) lv hv lp hp) (sym (free xors g after x u (seenAt ids v u p) (omega arith) low))
-        ∙ xors .assoc (standing g start v x p) (rest g ids mid u v x p) (matrix xors g after x u (seenAt ids v u p))
-        ∙ ap (bitXor (standing g start v x p))
-        (xor-comm (rest g ids mid u v x p) (matrix xors g after x u (seenAt ids v u p))
-        ∙ ap (bitXor (matrix xors g after x u (seenAt ids v u p))) (sym (rest-alike after mid u v x p later-kept lx (omega arith)))
-        ∙ sym (from-u xors (λ y. matrix xors g after x y (seenAt ids v y p)))))
-        (λ high.
-        column .kept v x p lx (omega arith) (λ h. high) (λ e. omega arith) lv hv
-        ∙ stage .waiting x v p lx (omega arith) lv hv lp hp
-        ∙ ap (bitXor (standing g start v x p)) (rest-corner mid u v x p high (omega arith) ∙ sym (rest-corner after (u - 1) v x p high (omega arith))))
-        (le-or-lt x (g .k))
+        ∙ ap (λ z. bitXor z (fromNext g ids mid u v (g .d - u) p)) (stage .waiting u v p lu (omega arith) lv hv))
+        (later-next after v u p ∙ same-next g ids u mid after (λ y q low past hy. later-kept u y q (omega arith) hy lu (omega arith)) v p)
+        ∙ plus-twice bytes (standing g start v u p) (fromNext g ids mid u v (g .d - u) p)
 
     pub stage-next : Stage g ids (u - 1) start after (count + more)
     stage-next =
@@ -170,7 +124,7 @@ module _ (g : Group) (ids : List ℕ) where
               piece-alike after mid x v p (λ w y q ly hy lw hw. later-kept w y q (omega arith) hy lw hw) (omega arith) hx
               ∙ stage .done x v p (omega arith) hx lv hv lp hp)
               (eq-or-ne x u);
-          waiting = λ x v p lx hx lv hv lp hp. still-waiting x v p lx (omega arith) lv hv lp hp;
+          waiting = λ x v p lx hx lv hv. column .kept v x p lx (omega arith) (λ e. omega arith) lv hv ∙ stage .waiting x v p lx (omega arith) lv hv;
           counted =
               ap₂ _+_
               (stage .counted
@@ -178,7 +132,7 @@ module _ (g : Group) (ids : List ℕ) where
               (λ j lo hi. sym (worth-alike after mid (u + j) (λ w y q ly hy lw hw. later-kept w y q (omega arith) hy lw hw) (omega arith) (omega arith))))
               (column .counted)
               ∙ add-comm (sum counts (g .d - u) (λ j. columnWorth g ids after (u + j))) (columnWorth g ids after u)
-              ∙ sym (from-u counts (λ y. columnWorth g ids after y));
+              ∙ sym (worth-from (λ y. columnWorth g ids after y));
         }
 
   -- all columns are done: the buffer is the one file that has the pieces

@@ -50,7 +50,7 @@ fn recover_exact(g: Group, ids: &[usize], buffer: &mut [u8]) -> Answer
     Answer::Value(recover_columns(g, ids, &rows, buffer))
 }
 
-// The columns from the last one down: each is solved where it lies, and then taken out of the columns before it.
+// The columns from the last one down: the later ones, solved by then, are taken out of each, and it is solved where it lies.
 fn recover_columns(g: Group, ids: &[usize], rows: &[usize], buffer: &mut [u8]) -> usize
     requires { ⌜ (Collected g (now ids) (now buffer)) × (RowsOf t (now ids) (now rows)) ⌝ }
     ensures { λ r. ⌜ Stage g (now (ids .entry)) 0 (now (buffer .entry)) (now (buffer .exit)) r ⌝ }
@@ -72,6 +72,6 @@ fn recover_column(g: Group, ids: &[usize], rows: &[usize], u: usize, buffer: &mu
     let s = letters::lesser(u, g.k);
     let start = entries::sequences_before(g.k, u) * g.l;
     let end = start + s * g.l;
-    let solved = solving::solve(&mut buffer[start..end], s, g.l, rows);
-    solved + columns::push_column(g, ids, rows, u, buffer)
+    let pulled = columns::pull_column(g, ids, rows, u, buffer);
+    pulled + solving::solve(&mut buffer[start..end], s, g.l, rows)
 }

@@ -4,7 +4,6 @@ pub mod Charted
 pub mod LinearRuns
 pub mod Lists
 pub mod MovedRuns
-pub mod PushRun
 pub mod PutBack
 pub mod SeenRuns
 pub mod Sequences

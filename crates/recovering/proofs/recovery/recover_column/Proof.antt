@@ -1,15 +1,15 @@
--- `recovery::recover_column` meets its contract: the column is one part of the buffer, which the solver has, and then it is taken out of the columns before it.
+-- `recovery::recover_column` meets its contract: the later columns are taken out of the column, which is then one part of the buffer that the solver has.
 use native.Mathlib.Omega.{arith}
 use mathlib.Core.Path.{sym, ap, subst, _∙_}
-use Prim.Native.Nat.{_+_, _*_}
+use Prim.Native.Nat.{_+_, _*_, _≤_}
 use native.Mathlib.Nat.{mul-le-mul}
 use Rattle.system.specs.System.{sequence}
 use Rattle.equation.specs.Rows.{shiftIn, Solvable}
 use Rattle.sequences.proofs.Charted.{solvable}
 use Rattle.matrix.proofs.ChosenRanks.{ranks}
-use Rattle.recovering.proofs.SolveColumn.{column-fits, lent-size, lent-length, additions-bound, solved-as, middle-length, column-done}
+use Rattle.recovering.proofs.SolveColumn.{column-fits, lent-size, lent-length, additions-bound, solved-as, column-done}
 use Rattle.group.specs.Ranges.{longest}
-use Rattle.columns.specs.Steps.Columns.{entriesMost}
+use Rattle.columns.specs.Steps.Columns.{entryMost, Collected}
 use borrow.Author.Needs.{needs}
 use Rattle.recovering.proofs.recovery.recover_column.Statement.{statement}
 use Rattle.recovering.proofs.recovery.recover_column.Tie as tie
@@ -32,6 +32,9 @@ add-end : tie.Need-add-end
 add-end c = let s = c .before .before .before .before .before .before .before in
     omega (arith, mul-le-mul {n₁ = c .before .before .sequences-before .result} {m₁ = s .args .g .l} {n₂ = 360} {m₂ = longest} (omega arith) (omega arith), mul-le-mul {n₁ = c .before .before .before .lesser .result} {m₁ = s .args .g .l} {n₂ = 16} {m₂ = longest} (omega (arith, c .before .before .before .lesser .ensures)) (omega arith))
 
+pull-column-requires : tie.Need-pull-column-requires
+pull-column-requires c κs = search needs
+
 sub-solve : tie.Need-sub-solve
 sub-solve c = search needs
 
@@ -39,39 +42,31 @@ part-solve-start : tie.Need-part-solve-start
 part-solve-start c = search needs
 
 part-solve-end : tie.Need-part-solve-end
-part-solve-end c = let s = c .before .before .before .before .before .before .before in
-    omega (arith, column-fits (s .args .g) (s .args .ids .now) (s .args .buffer .now) (s .pre .0) (s .args .u) (omega arith) (omega arith), (ap (λ m. m * s .args .g .l) (c .before .before .sequences-before .ensures .0)), (ap (λ m. c .before .before .sequences-before .result * s .args .g .l + m * s .args .g .l) (c .before .before .before .lesser .ensures)))
+part-solve-end c = let s = c .before .before .before .before .before .before .before .before .before .before .before in
+    let q = c .before .before .pull-column in
+    let collected : Collected (s .args .g) (s .args .ids .now) (q .last .1 .1 .1 .1 .0) = record { chosen = s .pre .0 .chosen; long = q .ensures .0 .same-length ∙ s .pre .0 .long } in
+    omega (arith, column-fits (s .args .g) (s .args .ids .now) (q .last .1 .1 .1 .1 .0) collected (s .args .u) (omega arith) (omega arith), (ap (λ m. m * s .args .g .l) (c .before .before .before .before .before .before .sequences-before .ensures .0)), (ap (λ m. c .before .before .before .before .before .before .sequences-before .result * s .args .g .l + m * s .args .g .l) (c .before .before .before .before .before .before .before .lesser .ensures)))
 
 solve-requires : tie.Need-solve-requires
-solve-requires c κs = let s = c .before .before .before .before .before .before .before .before in (
-  subst (λ m. Solvable m (s .args .g .l) (s .args .rows .now)) (sym (c .before .before .before .before .lesser .ensures))
-      (solvable _ _ _ (s .pre .1) _ (ranks _ _ _ (s .pre .0 .chosen) (omega arith)) _ (omega arith) (omega arith) (s .args .g .l) (omega arith) (omega arith)),
-  lent-length (s .args .g) (s .args .ids .now) (s .args .buffer .now) (s .pre .0) (s .args .u) (omega arith) (omega arith) _ _ (ap (λ m. m * s .args .g .l) (c .before .before .before .sequences-before .ensures .0)) (ap (λ m. c .before .before .before .sequences-before .result * s .args .g .l + m * s .args .g .l) (c .before .before .before .before .lesser .ensures)) ∙ ap (λ m. m * s .args .g .l) (sym (c .before .before .before .before .lesser .ensures)),
-)
-
-push-column-requires : tie.Need-push-column-requires
-push-column-requires c κs =
-    let s = c .before .before .before .before .before .before .before .before .before .before .before .before in
-    let v = c .before .before .before .solve in (
-      record {
-        chosen = s .pre .0 .chosen;
-        long =
-            middle-length (s .args .g) (s .args .ids .now) (s .args .buffer .now) (s .pre .0) (s .args .u) (omega arith) (omega arith) _ _ (ap (λ m. m * s .args .g .l) (c .before .before .before .before .before .before .before .sequences-before .ensures .0)) (ap (λ m. c .before .before .before .before .before .before .before .sequences-before .result * s .args .g .l + m * s .args .g .l) (c .before .before .before .before .before .before .before .before .lesser .ensures)) (v .last .0) (v .ensures .same-length ∙ lent-size (s .args .g) (s .args .ids .now) (s .args .buffer .now) (s .pre .0) (s .args .u) (omega arith) (omega arith) _ _ (ap (λ m. m * s .args .g .l) (c .before .before .before .before .before .before .before .sequences-before .ensures .0)) (ap (λ m. c .before .before .before .before .before .before .before .sequences-before .result * s .args .g .l + m * s .args .g .l) (c .before .before .before .before .before .before .before .before .lesser .ensures))) ∙ s .pre .0 .long;
-      },
-      s .pre .1,
-      omega arith,
-      omega arith,
+solve-requires c κs = let s = c .before .before .before .before .before .before .before .before .before .before .before .before in
+    let q = c .before .before .before .pull-column in
+    let collected : Collected (s .args .g) (s .args .ids .now) (q .last .1 .1 .1 .1 .0) = record { chosen = s .pre .0 .chosen; long = q .ensures .0 .same-length ∙ s .pre .0 .long } in (
+      subst (λ m. Solvable m (s .args .g .l) (s .args .rows .now)) (sym (c .before .before .before .before .before .before .before .before .lesser .ensures))
+          (solvable _ _ _ (s .pre .1) _ (ranks _ _ _ (s .pre .0 .chosen) (omega arith)) _ (omega arith) (omega arith) (s .args .g .l) (omega arith) (omega arith)),
+      lent-length (s .args .g) (s .args .ids .now) (q .last .1 .1 .1 .1 .0) collected (s .args .u) (omega arith) (omega arith) _ _ (ap (λ m. m * s .args .g .l) (c .before .before .before .before .before .before .before .sequences-before .ensures .0)) (ap (λ m. c .before .before .before .before .before .before .before .sequences-before .result * s .args .g .l + m * s .args .g .l) (c .before .before .before .before .before .before .before .before .lesser .ensures)) ∙ ap (λ m. m * s .args .g .l) (sym (c .before .before .before .before .before .before .before .before .lesser .ensures)),
     )
 
 add-result : tie.Need-add-result
 add-result c = let s = c .before .before .before .before .before .before .before .before .before .before .before .before .before .before .before in
-    let v = c .before .before .before .before .before .before .solve in
+    let v = c .before .before .solve in
+    let n = c .before .before .before .before .before .before .before .before .before .before .before .lesser .result in
+    let few : n ≤ 16 = omega (arith, c .before .before .before .before .before .before .before .before .before .before .before .lesser .ensures) in
     omega (
       arith,
+      c .before .before .before .before .before .before .pull-column .ensures .1 .1,
       v .ensures .counted,
-      additions-bound (c .before .before .before .before .before .before .before .before .before .before .before .lesser .result) (s .args .g .l) (shiftIn (s .args .rows .now)) (sequence 0 (v .last .0) (s .args .g .l)),
-      c .before .before .push-column .ensures .1,
-      mul-le-mul {n₁ = c .before .before .before .before .before .before .before .before .before .before .before .lesser .result} {m₁ = s .args .g .l * c .before .before .before .before .before .before .before .before .before .before .before .lesser .result} {n₂ = 16} {m₂ = entriesMost} (omega (arith, c .before .before .before .before .before .before .before .before .before .before .before .lesser .ensures)) (mul-le-mul {n₁ = s .args .g .l} {m₁ = c .before .before .before .before .before .before .before .before .before .before .before .lesser .result} {n₂ = longest} {m₂ = 16} (omega arith) (omega (arith, c .before .before .before .before .before .before .before .before .before .before .before .lesser .ensures))),
+      additions-bound n (s .args .g .l) (shiftIn (s .args .rows .now)) (sequence 0 (v .last .0) (s .args .g .l)),
+      mul-le-mul {n₁ = n} {m₁ = s .args .g .l * n} {n₂ = 16} {m₂ = entryMost} few (mul-le-mul {n₁ = s .args .g .l} {m₁ = n} {n₂ = longest} {m₂ = 16} (omega arith) few),
     )
 
 same-length : tie.Need-same-length
@@ -79,10 +74,12 @@ same-length c = search needs
 
 returns : tie.Need-returns
 returns c = let s = c .before .before .before .before .before .before .before .before .before .before .before .before .before .before .before in
-    let v = c .before .before .before .before .before .before .solve in
-    column-done (s .args .g) (s .args .ids .now) (s .args .buffer .now) (s .pre .0) (s .args .u) (omega arith) (omega arith) _ _ (ap (λ m. m * s .args .g .l) (c .before .before .before .before .before .before .before .before .before .before .sequences-before .ensures .0)) (ap (λ m. c .before .before .before .before .before .before .before .before .before .before .sequences-before .result * s .args .g .l + m * s .args .g .l) (c .before .before .before .before .before .before .before .before .before .before .before .lesser .ensures)) (v .last .0) (v .ensures .same-length ∙ lent-size (s .args .g) (s .args .ids .now) (s .args .buffer .now) (s .pre .0) (s .args .u) (omega arith) (omega arith) _ _ (ap (λ m. m * s .args .g .l) (c .before .before .before .before .before .before .before .before .before .before .sequences-before .ensures .0)) (ap (λ m. c .before .before .before .before .before .before .before .before .before .before .sequences-before .result * s .args .g .l + m * s .args .g .l) (c .before .before .before .before .before .before .before .before .before .before .before .lesser .ensures))) (s .args .rows .now) _ (v .result) _ (s .pre .1)
+    let q = c .before .before .before .before .before .before .pull-column in
+    let collected : Collected (s .args .g) (s .args .ids .now) (q .last .1 .1 .1 .1 .0) = record { chosen = s .pre .0 .chosen; long = q .ensures .0 .same-length ∙ s .pre .0 .long } in
+    let v = c .before .before .solve in
+    column-done (s .args .g) (s .args .ids .now) (q .last .1 .1 .1 .1 .0) collected (s .args .u) (omega arith) (omega arith) _ _ (ap (λ m. m * s .args .g .l) (c .before .before .before .before .before .before .before .before .before .before .sequences-before .ensures .0)) (ap (λ m. c .before .before .before .before .before .before .before .before .before .before .sequences-before .result * s .args .g .l + m * s .args .g .l) (c .before .before .before .before .before .before .before .before .before .before .before .lesser .ensures)) (v .last .0) (v .ensures .same-length ∙ lent-size (s .args .g) (s .args .ids .now) (q .last .1 .1 .1 .1 .0) collected (s .args .u) (omega arith) (omega arith) _ _ (ap (λ m. m * s .args .g .l) (c .before .before .before .before .before .before .before .before .before .before .sequences-before .ensures .0)) (ap (λ m. c .before .before .before .before .before .before .before .before .before .before .sequences-before .result * s .args .g .l + m * s .args .g .l) (c .before .before .before .before .before .before .before .before .before .before .before .lesser .ensures))) (s .args .rows .now) _ _ _ (s .pre .1)
+    (q .ensures .0) (q .ensures .1 .0) (q .ensures .1 .1)
     (solved-as _ _ _ _ _ _ _ (c .before .before .before .before .before .before .before .before .before .before .before .lesser .ensures) (v .ensures))
-    (c .before .before .push-column .ensures .0) (c .before .before .push-column .ensures .1)
 
 pub recover-column-spec : {M : Type 1} → statement M
 recover-column-spec =
@@ -93,11 +90,11 @@ recover-column-spec =
     mul-start
     mul-end
     add-end
+    pull-column-requires
     sub-solve
     part-solve-start
     part-solve-end
     solve-requires
-    push-column-requires
     add-result
     same-length
     returns)
