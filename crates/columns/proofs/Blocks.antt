@@ -11,7 +11,7 @@ use Rattle.letters.specs.Algebra.{xors, sum}
 use Rattle.letters.specs.Laid.{Laid}
 use Rattle.letters.proofs.Cases.{le-or-lt, eq-or-ne}
 use Rattle.letters.proofs.Sums.{sum-same}
-use Rattle.sums.specs.Sums.{startOf, sumAt, Inside, NoneBefore}
+use Rattle.sums.specs.Sums.{runStart, sumAt, RunsInside, NoneBefore}
 use Rattle.system.proofs.System.{sequence-inside}
 use Rattle.group.specs.declared.Group.{Group}
 use Rattle.lengths.specs.Lengths.{fileLetters}
@@ -24,19 +24,19 @@ use Rattle.columns.proofs.Moving.{moves-rise}
 use Rattle.columns.proofs.Pulling.{entries-fit, source}
 
 -- where the entry and the next m columns are seen from place wide + 1 of entry (w,v) on
-pub record Starts (g : Group) (ids : List ℕ) (v w wide m : ℕ) (starts : List ℕ) : Type 0 where
+pub record SeenStarts (g : Group) (ids : List ℕ) (v w wide m : ℕ) (starts : List ℕ) : Type 0 where
   pub long : length starts ≡ 16
   pub own : getD starts 0 0 ≡ base g v w + wide
   pub later : (j : ℕ) → 1 ≤ j → j ≤ m → getD starts j 0 + movedBy ids w (v + j) ≡ base g (v + j) v + wide
 
 module _ (g : Group) (ids : List ℕ) (v w wide : ℕ) where
-  pub starts-none : (starts : List ℕ) → length starts ≡ 16 → getD starts 0 0 ≡ base g v w + wide → Starts g ids v w wide (v - v) starts
+  pub starts-none : (starts : List ℕ) → length starts ≡ 16 → getD starts 0 0 ≡ base g v w + wide → SeenStarts g ids v w wide (v - v) starts
   starts-none starts long own = record { long = long; own = own; later = λ j lo hi. absurd (omega arith) }
 
   -- one column more, as the loop over them stores it
   pub starts-next :
       (u start : ℕ) (starts : List ℕ) → v ≤ u → u + 1 - v < 16 → start + movedBy ids w (u + 1) ≡ base g (u + 1) v + wide
-      → Starts g ids v w wide (u - v) starts → Starts g ids v w wide (u + 1 - v) (set starts (u + 1 - v) start)
+      → SeenStarts g ids v w wide (u - v) starts → SeenStarts g ids v w wide (u + 1 - v) (set starts (u + 1 - v) start)
   starts-next u start starts h few e done =
       record {
         long = simp length-set (done .long);
@@ -56,7 +56,7 @@ module _ (g : Group) (ids : List ℕ) (v w wide : ℕ) where
 
 module _ (g : Group) (ids rows : List ℕ) (v w : ℕ) (e : Entry g ids rows v w) (buffer : List ℕ) (long : length buffer ≡ fileLetters g)
     (wide to n : ℕ) (starts : List ℕ) (at : wide ≡ movedBy ids w (g .d)) (fits : wide ≤ g .l) (begins : to ≡ base g v w + wide)
-    (all : n ≡ 1 + (g .d - v)) (done : Starts g ids v w wide (g .d - v) starts) where
+    (all : n ≡ 1 + (g .d - v)) (done : SeenStarts g ids v w wide (g .d - v) starts) where
   -- no column is moved further than the last
   least : (u : ℕ) → 1 ≤ u → u ≤ g .d → movedBy ids w u ≤ wide
   least u lu hu = omega (arith, moves-rise g ids (e .chosen) w (e .row) (omega arith) u (g .d) lu hu)
@@ -76,7 +76,7 @@ module _ (g : Group) (ids rows : List ℕ) (v w : ℕ) (e : Entry g ids rows v w
       (omega (arith, done .later j later h, least (v + j) (omega arith) inside, fit), omega (arith, done .later j later h, fit)))
       (le-or-lt j 0)
 
-  pub blocks-inside : Inside starts n (g .l - wide) (length buffer) × NoneBefore starts n to
+  pub blocks-inside : RunsInside starts n (g .l - wide) (length buffer) × NoneBefore starts n to
   blocks-inside = (
     record {
       some = omega arith;
@@ -92,11 +92,11 @@ module _ (g : Group) (ids rows : List ℕ) (v w : ℕ) (e : Entry g ids rows v w
       → sumAt buffer starts n (base g v w + (p - 1) - to) ≡ bitXor (standing g buffer w v p) (fromNext g ids buffer v w (g .d - v) p)
   unfolding sumAt
   sum-there p lo hi =
-      ap (λ m. sum xors m (λ u. getD buffer (startOf starts u + q) 0)) all
-      ∙ sum-first xors (g .d - v) (λ u. getD buffer (startOf starts u + q) 0)
+      ap (λ m. sum xors m (λ u. getD buffer (runStart starts u + q) 0)) all
+      ∙ sum-first xors (g .d - v) (λ u. getD buffer (runStart starts u + q) 0)
       ∙ ap₂ bitXor
       (ap (λ i. getD buffer i 0) own ∙ sym (sequence-inside 0 buffer (g .l) (entryNumber (g .k) w v) p (omega arith) hi))
-      (sum-same xors (g .d - v) (λ j. getD buffer (startOf starts (1 + j) + q) 0) (λ j. fromColumn g ids buffer v w (v + j) p)
+      (sum-same xors (g .d - v) (λ j. getD buffer (runStart starts (1 + j) + q) 0) (λ j. fromColumn g ids buffer v w (v + j) p)
       (λ j lj hj.
       let next : v < v + j = omega arith in
       let inside : v + j ≤ g .d = omega arith in

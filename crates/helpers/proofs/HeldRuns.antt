@@ -7,7 +7,7 @@ use Prim.Native.Nat.{ℕ, _≤_, _+_, _-_}
 use lib.ListN.{length}
 use Rattle.letters.specs.Algebra.{xors}
 use Rattle.letters.specs.Places.{letter}
-use Rattle.sums.specs.Sums.{startOf}
+use Rattle.sums.specs.Sums.{runStart}
 use Rattle.shifts.specs.Rule.{t}
 use Rattle.group.specs.declared.Group.{Group}
 use Rattle.lengths.specs.Lengths.{packetStart, packetLength, nodeLetters, repairLetters}
@@ -28,10 +28,10 @@ module _ (g : Group) (lost helper rank size : ℕ) (h : Helper g lost helper ran
   same-packet : (j : ℕ) → 1 ≤ j → j - 1 + 1 ≡ j
   same-packet j lo = omega arith
 
-  start-at : (j : ℕ) → 1 ≤ j → j ≤ g .d → startOf starts j ≡ packetStart g helper j
+  start-at : (j : ℕ) → 1 ≤ j → j ≤ g .d → runStart starts j ≡ packetStart g helper j
   start-at j lo hi = s .packets (j - 1) (omega arith) ∙ ap (packetStart g helper) (same-packet j lo)
 
-  lead-at : (j : ℕ) → 1 ≤ j → j ≤ g .d → startOf leads j ≡ t lost j
+  lead-at : (j : ℕ) → 1 ≤ j → j ≤ g .d → runStart leads j ≡ t lost j
   lead-at j lo hi = w .shifts (j - 1) (omega (arith, h .node .group .d-high)) ∙ ap (t lost) (same-packet j lo)
 
   pub packet-runs : MovedRuns starts leads (g .d) size (length held)
@@ -68,6 +68,6 @@ module _ (g : Group) (lost helper rank size : ℕ) (h : Helper g lost helper ran
       summed-run (repairLetters g lost) (g .d) (t helper rank) (t lost) (heldLetter xors g helper held) (λ p. helperSum xors g lost helper held (p + t helper rank)) after
       (x .same-length ∙ size′)
       (subst (λ m. Summed m (t helper rank) (t lost) (heldLetter xors g helper held) after) (add-zero (g .d))
-      (summed-as (g .d) 0 (t helper rank) (startOf leads) (t lost) (runLetter held starts size) (heldLetter xors g helper held) after lead-at held-letter
-      (λ j p past last. absurd (omega arith)) (subst (λ m. Summed (g .d) m (startOf leads) (runLetter held starts size) after) e (x .summed))))
+      (summed-as (g .d) 0 (t helper rank) (runStart leads) (t lost) (runLetter held starts size) (heldLetter xors g helper held) after lead-at held-letter
+      (λ j p past last. absurd (omega arith)) (subst (λ m. Summed (g .d) m (runStart leads) (runLetter held starts size) after) e (x .summed))))
       (λ p. refl)

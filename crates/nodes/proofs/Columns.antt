@@ -7,7 +7,7 @@ use Prim.Native.Nat.{ℕ, _≤_, _+_, _-_}
 use lib.ListN.{length}
 use Rattle.letters.specs.Algebra.{xors}
 use Rattle.letters.specs.Places.{letter}
-use Rattle.sums.specs.Sums.{startOf}
+use Rattle.sums.specs.Sums.{runStart}
 use Rattle.shifts.specs.Rule.{t}
 use Rattle.group.specs.declared.Group.{Group}
 use Rattle.group.specs.Ranges.{NodeOf}
@@ -30,10 +30,10 @@ module _ (g : Group) (node column : ℕ) (n : NodeOf g node) (lc : 1 ≤ column)
   same-row : (v : ℕ) → 1 ≤ v → v - 1 + 1 ≡ v
   same-row v lo = omega arith
 
-  start-at : (v : ℕ) → 1 ≤ v → v ≤ g .d → startOf starts v ≡ entryStart g v column
+  start-at : (v : ℕ) → 1 ≤ v → v ≤ g .d → runStart starts v ≡ entryStart g v column
   start-at v lo hi = s .rows (v - 1) (omega arith) ∙ ap (λ m. entryStart g m column) (same-row v lo)
 
-  shift-at : (v : ℕ) → 1 ≤ v → v ≤ g .d → startOf shifts v ≡ t node v
+  shift-at : (v : ℕ) → 1 ≤ v → v ≤ g .d → runStart shifts v ≡ t node v
   shift-at v lo hi = w .shifts (v - 1) (omega arith) ∙ ap (t node) (same-row v lo)
 
   -- the entries are runs of the file
@@ -75,7 +75,7 @@ module _ (g : Group) (node column : ℕ) (n : NodeOf g node) (lc : 1 ≤ column)
   laid-packet before after size h =
       summed-run (packetLength g node column) (g .d) 0 (t node) (λ v. matrix xors g file v column) (packetLetter xors g file node column) after (h .same-length ∙ size)
       (subst (λ m. Summed m 0 (t node) (λ v. matrix xors g file v column) after) all
-      (summed-as rows (g .d - rows) 0 (startOf shifts) (t node) (runLetter file starts (g .l)) (λ v. matrix xors g file v column) after
+      (summed-as rows (g .d - rows) 0 (runStart shifts) (t node) (runLetter file starts (g .l)) (λ v. matrix xors g file v column) after
       (λ v lo hi. shift-at v lo (omega (arith, used .within))) row-letter
       (λ v p past last. corner xors g file v column p (used .corner-row v past (omega (arith, used .within))) (used .corner-column v past (omega (arith, used .within))))
       (h .summed)))

@@ -15,7 +15,7 @@ use Rattle.letters.specs.Laid.{Laid}
 use Rattle.letters.proofs.Cases.{le-or-lt}
 use Rattle.letters.proofs.Places.{letter-inside}
 use Rattle.letters.proofs.Sums.{sum-same, sum-split, sum-none}
-use Rattle.sums.specs.Sums.{startOf, sumAt, Inside}
+use Rattle.sums.specs.Sums.{runStart, sumAt, RunsInside}
 use Rattle.sums.proofs.Sums.{fits-at}
 use Rattle.sequences.specs.Moved.{moved}
 use Rattle.sequences.specs.Steps.Windows.{Seen, Adds, Summed}
@@ -24,7 +24,7 @@ use Rattle.sequences.proofs.PutBack.{back, back-length, back-before, ba
 use Rattle.sequences.proofs.Summing.{part-adds}
 
 -- the code counts from 0
-start-of : (starts : List ℕ) (u : ℕ) → getD starts u 0 ≡ startOf starts (u + 1)
+start-of : (starts : List ℕ) (u : ℕ) → getD starts u 0 ≡ runStart starts (u + 1)
 start-of starts u = ap (λ i. getD starts i 0) back-one
   where
     back-one : u ≡ u + 1 - 1
@@ -34,20 +34,20 @@ start-of starts u = ap (λ i. getD starts i 0) back-one
 pub run-seen :
     (from starts leads : List ℕ) (n size skip u : ℕ) (before after : List ℕ) → MovedRuns starts leads n size (length from) → u < n
     → Seen (take (getD starts u 0 + size - getD starts u 0) (drop (getD starts u 0) from)) skip (getD leads u 0) before after
-    → Adds (runLetter from starts size (u + 1)) skip (startOf leads (u + 1)) before after
+    → Adds (runLetter from starts size (u + 1)) skip (runStart leads (u + 1)) before after
 unfolding runLetter
 run-seen from starts leads n size skip u before after r h seen =
-    part-adds from (runLetter from starts size (u + 1)) (getD starts u 0) size (getD starts u 0 + size) skip (getD leads u 0) (startOf leads (u + 1)) before after
+    part-adds from (runLetter from starts size (u + 1)) (getD starts u 0) size (getD starts u 0 + size) skip (getD leads u 0) (runStart leads (u + 1)) before after
     (fits-at starts n size (length from) (r .inside) u h) refl (start-of leads u) (λ p. ap (λ i. letter 0 from i size p) (start-of starts u)) seen
 
 module _ (from starts leads seen : List ℕ) (n size skip count : ℕ) (r : MovedRuns starts leads n size (length from)) (all : AllSeen leads n size skip 0 count)
     (later : (u : ℕ) → u < n → getD seen u 0 ≡ getD starts u 0 + (skip - getD leads u 0)) where
   -- where run u is seen
-  seen-at-start : (u : ℕ) → 1 ≤ u → u ≤ n → startOf seen u ≡ startOf starts u + (skip - startOf leads u)
+  seen-at-start : (u : ℕ) → 1 ≤ u → u ≤ n → runStart seen u ≡ runStart starts u + (skip - runStart leads u)
   seen-at-start u lo hi = later (u - 1) (omega arith)
 
   -- the runs have so many letters from there on
-  pub seen-inside : n ≤ length seen → Inside seen n count (length from)
+  pub seen-inside : n ≤ length seen → RunsInside seen n count (length from)
   seen-inside many =
       record {
         some = r .inside .some;
@@ -57,11 +57,11 @@ module _ (from starts leads seen : List ℕ) (n size skip count : ℕ) (r : Move
 
   -- the letters that stand there are those that the window sees
   seen-letter :
-      (u q : ℕ) → 1 ≤ u → u ≤ n → q < count → getD from (startOf seen u + q) 0 ≡ runLetter from starts size u (q + 1 + skip - startOf leads u)
+      (u q : ℕ) → 1 ≤ u → u ≤ n → q < count → getD from (runStart seen u + q) 0 ≡ runLetter from starts size u (q + 1 + skip - runStart leads u)
   unfolding runLetter
   seen-letter u q lo hi h =
-      ap (λ i. getD from i 0) (place (startOf seen u) (startOf starts u) (startOf leads u) (seen-at-start u lo hi) (omega (arith, all .begun u lo hi)))
-      ∙ sym (letter-inside 0 from (startOf starts u) size (q + 1 + skip - startOf leads u) (omega (arith, all .begun u lo hi)) (omega (arith, all .going)))
+      ap (λ i. getD from i 0) (place (runStart seen u) (runStart starts u) (runStart leads u) (seen-at-start u lo hi) (omega (arith, all .begun u lo hi)))
+      ∙ sym (letter-inside 0 from (runStart starts u) size (q + 1 + skip - runStart leads u) (omega (arith, all .begun u lo hi)) (omega (arith, all .going)))
     where
       place : (s start lead : ℕ) → s ≡ start + (skip - lead) → lead ≤ skip → s + q ≡ start + (q + 1 + skip - lead - 1)
       place s start lead e h = omega arith
@@ -76,7 +76,7 @@ module _ (from starts leads seen : List ℕ) (n size skip count : ℕ) (r : Move
               sums =
                   λ q h.
                   laid .laid q (omega arith) (omega (arith, laid .same-length))
-                  ∙ sum-same xors n (λ u. getD from (startOf seen u + q) 0) (λ u. runLetter from starts size u (q + 1 + skip - startOf leads u))
+                  ∙ sum-same xors n (λ u. getD from (runStart seen u + q) 0) (λ u. runLetter from starts size u (q + 1 + skip - runStart leads u))
                   (λ u lo hi. seen-letter u q lo hi (omega (arith, laid .same-length)));
             };
       }
@@ -179,10 +179,10 @@ module _ (from starts leads : List ℕ) (n size skip a e : ℕ) (xs x₁ x₂ x�
                 record {
                   sums =
                       λ q h.
-                      part-summed n skip (startOf leads) (runLetter from starts size) e (length after₂) after₂ x₃ fits₃ (omega arith) long₃
-                      (part-summed n skip (startOf leads) (runLetter from starts size) a e after₁ x₂ order fits₂ long₂
-                      (part-summed n skip (startOf leads) (runLetter from starts size) 0 a xs x₁ (omega arith) (omega arith) long₁ (λ q h. absurd (omega arith))
-                      (subst (λ m. Summed n m (startOf leads) (runLetter from starts size) x₁) (sym (add-zero skip)) (h₁ .summed)))
+                      part-summed n skip (runStart leads) (runLetter from starts size) e (length after₂) after₂ x₃ fits₃ (omega arith) long₃
+                      (part-summed n skip (runStart leads) (runLetter from starts size) a e after₁ x₂ order fits₂ long₂
+                      (part-summed n skip (runStart leads) (runLetter from starts size) 0 a xs x₁ (omega arith) (omega arith) long₁ (λ q h. absurd (omega arith))
+                      (subst (λ m. Summed n m (runStart leads) (runLetter from starts size) x₁) (sym (add-zero skip)) (h₁ .summed)))
                       (h₂ .summed))
                       (h₃ .summed) q (omega (arith, kept₃));
                 };

@@ -4,28 +4,28 @@ use mathlib.Core.List.{List}
 use Prim.Native.Nat.{ℕ, _+_, _-_, _≤_, _<_}
 use lib.ListN.{length, getD}
 use Rattle.letters.specs.Algebra.{xors, sum}
-use Rattle.letters.specs.Steps.Rests.{widest}
+use Rattle.letters.specs.Steps.Rests.{blockSize}
 
 -- the index at which run u starts, counted from 1
-abbrev pub startOf : List ℕ → ℕ → ℕ
-startOf starts u = getD starts (u - 1) 0
+abbrev pub runStart : List ℕ → ℕ → ℕ
+runStart starts u = getD starts (u - 1) 0
 
 -- the letters that stand q behind the starts of the first n runs, summed
 unfoldable pub sumAt : List ℕ → List ℕ → ℕ → ℕ → ℕ
 unfolding sum
-sumAt from starts n q = sum xors n (λ u. getD from (startOf starts u + q) 0)
+sumAt from starts n q = sum xors n (λ u. getD from (runStart starts u + q) 0)
 
 -- n runs, at least one, of so many letters each, all inside a buffer
-pub record Inside (starts : List ℕ) (n count long : ℕ) : Type 0 where
+pub record RunsInside (starts : List ℕ) (n count long : ℕ) : Type 0 where
   pub some : 1 ≤ n
   pub many : n ≤ length starts
-  pub fits : (u : ℕ) → 1 ≤ u → u ≤ n → startOf starts u + count ≤ long
+  pub fits : (u : ℕ) → 1 ≤ u → u ≤ n → runStart starts u + count ≤ long
 
 -- none of the n runs starts before this index
 pub record NoneBefore (starts : List ℕ) (n to : ℕ) : Type 0 where
-  pub from : (u : ℕ) → 1 ≤ u → u ≤ n → to ≤ startOf starts u
+  pub from : (u : ℕ) → 1 ≤ u → u ≤ n → to ≤ runStart starts u
 
 -- a block of the sum, from the letters on that stand `at` behind the starts
 pub record BlockOf (from starts : List ℕ) (n at : ℕ) (block : List ℕ) : Type 0 where
-  pub long : length block ≡ widest
-  pub letters : (q : ℕ) → q < widest → getD block q 0 ≡ sumAt from starts n (at + q)
+  pub long : length block ≡ blockSize
+  pub letters : (q : ℕ) → q < blockSize → getD block q 0 ≡ sumAt from starts n (at + q)

@@ -5,12 +5,12 @@ ghost use mathlib.Core.Path.{_≡_};
 ghost use Prim.Native.Nat.{_≤_};
 ghost use lib.ListN.{length};
 ghost use Rattle.letters.specs.Laid.{Laid};
-ghost use Rattle.letters.specs.Steps.Rests.{widest, leftOver};
-ghost use Rattle.sums.specs.Sums.{sumAt, Inside};
+ghost use Rattle.letters.specs.Steps.Rests.{blockSize, leftOver};
+ghost use Rattle.sums.specs.Sums.{sumAt, RunsInside};
 
 // The letters from index `start` on, in blocks; `start` is what blocks leave over.
 pub fn lay_blocks(into: &mut [u8], from: &[u8], starts: &[usize], sources: usize, start: usize)
-    requires { ⌜ (Inside (now starts) sources (length (now into)) (length (now from))) × (start ≡ leftOver (length (now into)) widest) ⌝ }
+    requires { ⌜ (RunsInside (now starts) sources (length (now into)) (length (now from))) × (start ≡ leftOver (length (now into)) blockSize) ⌝ }
     ensures { λ _. ⌜ Laid (now (into .entry)) (now (into .exit)) start (length (now (into .entry))) (sumAt (now (from .entry)) (now (starts .entry)) sources) ⌝ }
 {
     let mut at = start;
@@ -23,7 +23,7 @@ pub fn lay_blocks(into: &mut [u8], from: &[u8], starts: &[usize], sources: usize
 
 // All letters, one by one.
 pub fn lay_letters(into: &mut [u8], from: &[u8], starts: &[usize], sources: usize)
-    requires { ⌜ Inside (now starts) sources (length (now into)) (length (now from)) ⌝ }
+    requires { ⌜ RunsInside (now starts) sources (length (now into)) (length (now from)) ⌝ }
     ensures { λ _. ⌜ Laid (now (into .entry)) (now (into .exit)) 0 (length (now (into .entry))) (sumAt (now (from .entry)) (now (starts .entry)) sources) ⌝ }
 {
     let mut at = 0;

@@ -5,8 +5,8 @@ ghost use mathlib.Core.Path.{_≡_};
 ghost use Prim.Native.Nat.{_+_, _-_, _≤_};
 ghost use lib.ListN.{length};
 ghost use Rattle.letters.specs.Laid.{Laid};
-ghost use Rattle.letters.specs.Steps.Rests.{widest, leftOver};
-ghost use Rattle.sums.specs.Sums.{sumAt, Inside, NoneBefore};
+ghost use Rattle.letters.specs.Steps.Rests.{blockSize, leftOver};
+ghost use Rattle.sums.specs.Sums.{sumAt, RunsInside, NoneBefore};
 
 // The letters from `start` behind `to` on, in blocks; `start` is what blocks leave over of `count`.
 pub fn lay_blocks(
@@ -17,8 +17,8 @@ pub fn lay_blocks(
     count: usize,
     start: usize,
 )
-    requires runs { ⌜ (Inside (now starts) sources count (length (now buffer))) × (NoneBefore (now starts) sources to) ⌝ }
-    requires start { ⌜ start ≡ leftOver count widest ⌝ }
+    requires runs { ⌜ (RunsInside (now starts) sources count (length (now buffer))) × (NoneBefore (now starts) sources to) ⌝ }
+    requires start { ⌜ start ≡ leftOver count blockSize ⌝ }
     ensures { λ _. ⌜ Laid (now (buffer .entry)) (now (buffer .exit)) (to + start) (to + count) (λ p. sumAt (now (buffer .entry)) (now (starts .entry)) sources (p - to)) ⌝ }
 {
     let mut at = start;
@@ -31,7 +31,7 @@ pub fn lay_blocks(
 
 // All letters, one by one.
 pub fn lay_letters(buffer: &mut [u8], to: usize, starts: &[usize], sources: usize, count: usize)
-    requires { ⌜ (Inside (now starts) sources count (length (now buffer))) × (NoneBefore (now starts) sources to) ⌝ }
+    requires { ⌜ (RunsInside (now starts) sources count (length (now buffer))) × (NoneBefore (now starts) sources to) ⌝ }
     ensures { λ _. ⌜ Laid (now (buffer .entry)) (now (buffer .exit)) to (to + count) (λ p. sumAt (now (buffer .entry)) (now (starts .entry)) sources (p - to)) ⌝ }
 {
     let mut at = 0;

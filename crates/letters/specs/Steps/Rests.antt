@@ -2,8 +2,8 @@
 use Prim.Native.Nat.{ℕ, _%_}
 
 -- the letters of the widest block: sixteen eights
-abbrev pub widest : ℕ
-widest = 128
+abbrev pub blockSize : ℕ
+blockSize = 128
 
 -- how many of n letters are left over when they go in blocks of so many
 unfoldable pub leftOver : ℕ → ℕ → ℕ

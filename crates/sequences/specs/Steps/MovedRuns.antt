@@ -4,26 +4,26 @@ use mathlib.Core.List.{List}
 use Prim.Native.Nat.{ℕ, _+_, _≤_}
 use lib.ListN.{length}
 use Rattle.letters.specs.Places.{letter}
-use Rattle.sums.specs.Sums.{startOf, Inside}
+use Rattle.sums.specs.Sums.{runStart, RunsInside}
 use Rattle.sequences.specs.Steps.Windows.{Summed}
 
 -- letter p of run u, of so many letters
 unfoldable pub runLetter : List ℕ → List ℕ → ℕ → ℕ → ℕ → ℕ
-runLetter from starts size u p = letter 0 from (startOf starts u) size p
+runLetter from starts size u p = letter 0 from (runStart starts u) size p
 
 -- n runs of so many letters each, and by how much each is moved right
 pub record MovedRuns (starts leads : List ℕ) (n size long : ℕ) : Type 0 where
-  pub inside : Inside starts n size long
+  pub inside : RunsInside starts n size long
   pub few : n ≤ 16
   pub led : n ≤ length leads
 
 -- from index front of the window up to back, all runs have a letter
 pub record AllSeen (leads : List ℕ) (n size skip front back : ℕ) : Type 0 where
   pub order : front ≤ back
-  pub begun : (u : ℕ) → 1 ≤ u → u ≤ n → startOf leads u ≤ skip + front
+  pub begun : (u : ℕ) → 1 ≤ u → u ≤ n → runStart leads u ≤ skip + front
   pub going : skip + back ≤ size
 
 -- the buffer holds the sum of the n runs
 pub record Holding (from starts leads : List ℕ) (n size skip : ℕ) (before after : List ℕ) : Type 0 where
   pub same-length : length after ≡ length before
-  pub summed : Summed n skip (startOf leads) (runLetter from starts size) after
+  pub summed : Summed n skip (runStart leads) (runLetter from starts size) after

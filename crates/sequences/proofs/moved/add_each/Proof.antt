@@ -4,7 +4,7 @@ use mathlib.Core.Path.{_≡_, refl, _∙_}
 use Prim.Native.Nat.{_-_, _≤_}
 use lib.ListN.{length}
 use borrow.Author.Needs.{needs}
-use Rattle.sums.specs.Sums.{startOf}
+use Rattle.sums.specs.Sums.{runStart}
 use Rattle.sums.proofs.Sums.{fits-at}
 use Rattle.sequences.specs.Steps.Windows.{Summed}
 use Rattle.sequences.specs.Steps.MovedRuns.{runLetter}
@@ -14,7 +14,7 @@ use Rattle.sequences.proofs.moved.add_each.Statement.{statement}
 use Rattle.sequences.proofs.moved.add_each.Tie as tie
 
 abbrev Inv-loop : tie.InvT-loop
-Inv-loop into₀ from size starts leads sources skip u₀ into u = (u ≤ sources) × (length into ≡ length into₀) × Summed u skip (startOf leads) (runLetter from starts size) into
+Inv-loop into₀ from size starts leads sources skip u₀ into u = (u ≤ sources) × (length into ≡ length into₀) × Summed u skip (runStart leads) (runLetter from starts size) into
 
 abbrev μ-loop : tie.MeasureT-loop
 μ-loop into₀ from size starts leads sources skip u₀ into u = sources - u
