@@ -1,7 +1,7 @@
 // Letters: bytes under XOR, the addition of one run of letters into another, and runs that are copied or cleared.
 pub mod eights;
 pub mod moving;
-mod within;
+pub mod within;
 
 ghost use mathlib.Core.Path.{_≡_};
 ghost use Prim.Native.Nat.{_+_, _≤_, min};

@@ -20,9 +20,9 @@ pub fn add_letters(buffer: &mut [u8], to: usize, from: usize, count: usize)
     }
 }
 
-// Adds the same letters, which are taken first.
+// Adds the same letters, which are taken first: so they may lie anywhere, and overlap those that they are added to.
 pub fn add_block(buffer: &mut [u8], to: usize, from: usize, count: usize)
-    requires { ⌜ (count ≤ blockSize) × (to + count ≤ from) × (from + count ≤ length (now buffer)) ⌝ }
+    requires { ⌜ (count ≤ blockSize) × (to + count ≤ length (now buffer)) × (from + count ≤ length (now buffer)) ⌝ }
     ensures { λ _. ⌜ now (buffer .exit) ≡ added xors (now (buffer .entry)) to (take count (drop from (now (buffer .entry)))) ⌝ }
 {
     let block = eights::taken(buffer, from, count);

@@ -1,0 +1,3 @@
+-- The laws of running sums.
+pub mod Running
+pub mod Downward

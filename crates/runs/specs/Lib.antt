@@ -1,0 +1,3 @@
+-- Running sums of letters.
+pub mod Running
+pub mod Steps
