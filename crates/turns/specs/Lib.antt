@@ -1,0 +1,4 @@
+-- A tile solved by itself.
+pub mod Tables
+pub mod Turns
+pub mod Runs
