@@ -6,7 +6,7 @@ use native.Mathlib.Omega.{arith}
 use lib.ListN.{getD}
 use Rattle.system.specs.Order.{delay}
 use Rattle.equation.specs.Rows.{shiftIn, Rows}
-use Rattle.equation.specs.Steps.Starts.{Delays}
+use Rattle.equation.specs.Delays.{Delays}
 
 -- at most 65535 rounds for each rank
 pub delay-small : (s : ℕ) (rows : List ℕ) → Rows s rows → (u : ℕ) → u ≤ s → delay (shiftIn rows) u ≤ 65535 * u

@@ -1,3 +1,3 @@
--- What a system is handed as: rows of shifts.
+-- What a system is handed as: rows of shifts, and when each of its ranks begins.
 pub mod Rows
-pub mod Steps
+pub mod Delays

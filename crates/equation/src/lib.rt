@@ -1,4 +1,2 @@
-// One equation of a system of shifted sums: where it reads a sequence, and the letter that comes out of it.
+// A system of shifted sums as it is handed over: rows of shifts, and when they can be solved.
 pub mod place;
-pub mod starts;
-pub mod sums;

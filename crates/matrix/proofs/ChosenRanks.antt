@@ -1,7 +1,8 @@
 -- Chosen ids are ranks that the solver can take under the rule of document 01 (docs/SCHEME.md, 2), so rows of their shifts are what it wants.
-use mathlib.Core.Path.{_≡_}
+use mathlib.Core.Path.{_≡_, sym, ap}
 use mathlib.Core.List.{List}
-use Prim.Native.Nat.{ℕ, _+_, _-_, _≤_}
+use Prim.Native.Nat.{ℕ, _+_, _-_, _*_, _≤_}
+use native.Mathlib.Nat.{mul-one}
 use native.Mathlib.Omega.{arith}
 use Rattle.shifts.specs.Rule.{t}
 use Rattle.shifts.proofs.Rule.{refined, at-most}
@@ -26,6 +27,7 @@ module _ (g : Group) (wanted : ℕ) (ids : List ℕ) (c : Chosen g wanted ids) (
       back q = omega arith
 
   pub ranks : Ranks t wanted ids
+  unfolding t
   ranks =
       record {
         refined = refined;
@@ -33,4 +35,5 @@ module _ (g : Group) (wanted : ℕ) (ids : List ℕ) (c : Chosen g wanted ids) (
         few = few;
         falling = c .falling;
         small = λ b a lb hb la ha. omega (arith, at-most (ranked ids b) a (omega (arith, c .known b lb hb, c .group .n-high)) (omega arith));
+        even = λ b a lb hb la ha. ap (λ m. m * (a - 1)) (sym (mul-one (ranked ids b - 1)));
       }

@@ -39,6 +39,7 @@ pub record Ranks (rule : ShiftRule) (wanted : ℕ) (ids : List ℕ) : Type 0 whe
   pub few : wanted ≤ 16
   pub falling : Falling wanted (ranked ids)
   pub small : (b a : ℕ) → 1 ≤ b → b ≤ wanted → 1 ≤ a → a ≤ wanted → rule (ranked ids b) a ≤ 65535
+  pub even : (b a : ℕ) → 1 ≤ b → b ≤ wanted → 1 ≤ a → a ≤ wanted → rule (ranked ids b) a ≡ rule (ranked ids b) 2 * (a - 1)
 
 module _ (rule : ShiftRule) (ids rows : List ℕ) (r : RowsOf rule ids rows) where
   pub rows-shift : (b a : ℕ) → 1 ≤ b → b ≤ length ids → 1 ≤ a → a ≤ 16 → shiftIn rows b a ≡ rule (ranked ids b) a
@@ -64,6 +65,7 @@ module _ (rule : ShiftRule) (ids rows : List ℕ) (r : RowsOf rule ids rows) whe
           from-one = λ a lo hi. ranks .falling .from-one a lo (omega arith);
           falls = λ a b lo h hb. ranks .falling .falls a b lo h (omega arith);
         })
+        (record { products = λ b a lb hb la ha. ranks .even b a lb (omega arith) la (omega arith) })
         (λ b a lb hb la ha. ranks .small b a lb (omega arith) la (omega arith)) some (omega (arith, ranks .few)) ln hn (r .size)
 
     pub charted-part :

@@ -1,8 +1,4 @@
--- Why the solver leaves the one solution, and counts its additions.
-pub mod Advance
-pub mod Filled
-pub mod Inside
+-- Why the solver keeps its contract.
+pub mod Counted
 pub mod Outcome
-pub mod Started
-pub mod Steps
-pub mod Whole
+pub mod Tiles

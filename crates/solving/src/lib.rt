@@ -1,15 +1,18 @@
-// The solver of a system of shifted sums: s pieces of n letters are turned, where they lie, into the s sequences that they are sums of.
-mod rounds;
+// The solver of a system of shifted sums: s pieces of n letters are turned, where they lie, into the s sequences that they are sums of. It goes by tiles: rounds in which the same
+// ranks have a letter, whose runs are solved as wholes.
+mod counting;
+mod tables;
 
 ghost use mathlib.Core.Path.{_≡_};
-ghost use Prim.Native.Nat.{_+_, _*_, _^_, _≤_, _<_};
-ghost use lib.ListN.{length};
-ghost use Rattle.equation.specs.Rows.{Solvable};
-ghost use Rattle.equation.specs.Steps.Starts.{Delays, Starts};
+ghost use Prim.Native.Nat.{ℕ, _+_, _*_, _^_, _≤_, _<_};
+ghost use lib.ListN.{length, getD};
+ghost use Rattle.equation.specs.Rows.{shiftIn, Solvable};
+ghost use Rattle.tiles.specs.Tile.{Tile};
 ghost use Rattle.solving.specs.Solver.{Solved};
-ghost use Rattle.solving.specs.Steps.Rounds.{Advanced, Lead};
-use equation::starts;
-use equation::sums;
+ghost use Rattle.solving.specs.Steps.Tiles.{TablesOf, SolvedParts, Onward, Begun, Ended, Cut};
+
+// The most rounds of a tile, so that its runs stay near the processor however long the sequences are.
+const LONGEST: usize = 2048;
 
 // Solves the system of `s` equations over `s` sequences of `n` letters each. `part` holds the s pieces one after another and is left with
 // the s sequences in their place; `rows` has the shift of the node of rank b at column a at index (b - 1) * 16 + (a - 1).
@@ -19,124 +22,101 @@ pub fn solve(part: &mut [u8], s: usize, n: usize, rows: &[usize]) -> usize
     requires letters { ⌜ length (now part) ≡ s * n ⌝ }
     ensures { λ r. ⌜ Solved s n (now (rows .entry)) (now (part .entry)) (now (part .exit)) r ⌝ }
 {
-    let delays = rounds::waits(s, rows);
-    let lead = rounds::lead(s, rows, &delays);
-    let starts = starts::starts(s, n, rows, &delays, lead);
+    let exps = tables::exponents(s, rows);
+    let delays = tables::delays(s, &exps);
+    solve_tiles(part, s, n, rows, &exps, &delays);
+    counting::count(s, n, rows)
+}
+
+// The tiles, one after another, until all rounds are done.
+fn solve_tiles(
+    part: &mut [u8],
+    s: usize,
+    n: usize,
+    rows: &[usize],
+    exps: &[usize],
+    delays: &[usize],
+)
+    requires system { ⌜ (Solvable s n (now rows)) × (TablesOf s (now rows) (now exps) (now delays)) ⌝ }
+    requires letters { ⌜ length (now part) ≡ s * n ⌝ }
+    ensures { λ _. ⌜ SolvedParts s n (now (rows .entry)) (now (part .entry)) (now (part .exit)) ⌝ }
+{
     let rounds = n + delays[s - 1];
-    let mut count: usize = 0;
-    let mut r = 0;
-    while r < rounds {
-        r += 1;
-        count += solve_round(part, s, n, rows, &delays, lead, &starts, r);
+    let mut hi = 0;
+    let mut below = 0;
+    let mut done = 0;
+    while done < rounds {
+        hi = begun(s, delays, hi, done);
+        below = ended(n, hi, delays, below, done);
+        let end = cut(s, n, delays, below, hi, done);
+        solve_tile(part, s, n, rows, exps, delays, below, hi, done, end - done);
+        done = end;
     }
-    count
 }
 
-// Takes round `r`: one letter of each rank that has one in this round. The answer is the number of letter additions.
-fn solve_round(
+// How many ranks have begun after `done` rounds, `hi` at least.
+fn begun(s: usize, delays: &[usize], hi: usize, done: usize) -> usize
+    requires { ⌜ (s ≤ 16) × (length (now delays) ≡ 16) × (Begun s (now delays) 0 done hi) ⌝ }
+    ensures { λ r. ⌜ (Begun s (now (delays .entry)) s done r) × (hi ≤ r) ⌝ }
+{
+    let mut b = hi;
+    while b < s {
+        if done < delays[b] {
+            return b;
+        }
+        b += 1;
+    }
+    b
+}
+
+// How many of the `hi` ranks that have begun have ended after `done` rounds, `below` at least.
+fn ended(n: usize, hi: usize, delays: &[usize], below: usize, done: usize) -> usize
+    requires { ⌜ (hi ≤ 16) × (length (now delays) ≡ 16) × (n ≤ 2 ^ 32) × (Ended n hi (now delays) 0 done below) ⌝ }
+    requires small { ⌜ ((i : ℕ) → i < hi → getD (now delays) i 0 ≤ 2 ^ 32) ⌝ }
+    ensures { λ r. ⌜ Ended n hi (now (delays .entry)) hi done r ⌝ }
+{
+    let mut b = below;
+    while b < hi {
+        if done < n + delays[b] {
+            return b;
+        }
+        b += 1;
+    }
+    b
+}
+
+// The round after which a tile ends that starts after `done` rounds: where a rank ends or the next one begins, or where it gets too long.
+fn cut(s: usize, n: usize, delays: &[usize], below: usize, hi: usize, done: usize) -> usize
+    requires { ⌜ (s ≤ 16) × (length (now delays) ≡ 16) × (n ≤ 2 ^ 32) × (done ≤ 2 ^ 33) × (below < s) × (below ≤ hi) × (Begun s (now delays) s done hi) × (Ended n hi (now delays) hi done below) ⌝ }
+    requires small { ⌜ ((i : ℕ) → i < s → getD (now delays) i 0 ≤ 2 ^ 32) ⌝ }
+    ensures { λ r. ⌜ Cut s n (now (delays .entry)) below hi done r ⌝ }
+{
+    let end = letters::lesser(done + LONGEST, n + delays[below]);
+    if hi < s {
+        return letters::lesser(end, delays[hi]);
+    }
+    end
+}
+
+// One tile: the rounds done + 1 .. done + count, in which the ranks after `below` and up to `hi` have a letter.
+fn solve_tile(
     part: &mut [u8],
     s: usize,
     n: usize,
     rows: &[usize],
+    exps: &[usize],
     delays: &[usize],
-    lead: usize,
-    starts: &[usize],
-    r: usize,
-) -> usize
-    requires system { ⌜ Solvable s n (now rows) ⌝ }
+    below: usize,
+    hi: usize,
+    done: usize,
+    count: usize,
+)
+    requires system { ⌜ (Solvable s n (now rows)) × (TablesOf s (now rows) (now exps) (now delays)) ⌝ }
     requires letters { ⌜ length (now part) ≡ s * n ⌝ }
-    requires delays { ⌜ Delays s (now rows) (now delays) ⌝ }
-    requires round { ⌜ Lead s (now rows) lead × Starts s n (now rows) lead (now starts) × (r ≤ 2 ^ 33) ⌝ }
-    ensures step { λ c. ⌜ Advanced s n (now (rows .entry)) (now (part .entry)) (now (part .exit)) (16 * r + 1) (16 * r + 17) c ⌝ }
-    ensures bound { λ c. ⌜ c ≤ 256 ⌝ }
+    requires tile { ⌜ (Tile s n (shiftIn (now rows)) done count below hi) × (done + count ≤ 2 ^ 34) ⌝ }
+    ensures { λ _. ⌜ Onward s n (now (rows .entry)) (now (part .entry)) (now (part .exit)) done (done + count) ⌝ }
 {
-    let mut count: usize = 0;
-    let mut u = 0;
-    while u < s {
-        count += solve_rank(part, s, n, rows, delays, lead, starts, u + 1, r);
-        u += 1;
-    }
-    count
-}
-
-// Takes rank `u` in round `r`. After round `lead` no place is below 1, and up to round n none is above n: in between nothing needs a test.
-fn solve_rank(
-    part: &mut [u8],
-    s: usize,
-    n: usize,
-    rows: &[usize],
-    delays: &[usize],
-    lead: usize,
-    starts: &[usize],
-    u: usize,
-    r: usize,
-) -> usize
-    requires system { ⌜ Solvable s n (now rows) ⌝ }
-    requires letters { ⌜ length (now part) ≡ s * n ⌝ }
-    requires delays { ⌜ Delays s (now rows) (now delays) ⌝ }
-    requires turn { ⌜ (1 ≤ u) × (u ≤ s) × Lead s (now rows) lead × Starts s n (now rows) lead (now starts) × (r ≤ 2 ^ 33) ⌝ }
-    ensures step { λ c. ⌜ Advanced s n (now (rows .entry)) (now (part .entry)) (now (part .exit)) (16 * r + u) (16 * r + (u + 1)) c ⌝ }
-    ensures bound { λ c. ⌜ c ≤ 16 ⌝ }
-{
-    if r <= lead {
-        return rank_tested(part, s, n, rows, delays, u, r);
-    }
-    if n < r {
-        return rank_tested(part, s, n, rows, delays, u, r);
-    }
-    rank_inside(part, s, n, rows, delays, lead, starts, u, r)
-}
-
-// Takes rank `u` in round `r`: the letter of its sequence that comes out then, or nothing where that place is outside 1..n.
-// The answer is the number of letter additions.
-fn rank_tested(
-    part: &mut [u8],
-    s: usize,
-    n: usize,
-    rows: &[usize],
-    delays: &[usize],
-    u: usize,
-    r: usize,
-) -> usize
-    requires system { ⌜ Solvable s n (now rows) ⌝ }
-    requires letters { ⌜ length (now part) ≡ s * n ⌝ }
-    requires delays { ⌜ Delays s (now rows) (now delays) ⌝ }
-    requires turn { ⌜ (1 ≤ u) × (u ≤ s) × (r ≤ 2 ^ 33) ⌝ }
-    ensures step { λ c. ⌜ Advanced s n (now (rows .entry)) (now (part .entry)) (now (part .exit)) (16 * r + u) (16 * r + (u + 1)) c ⌝ }
-    ensures bound { λ c. ⌜ c ≤ 16 ⌝ }
-{
-    let wait = delays[u - 1];
-    if r <= wait {
-        return 0;
-    }
-    let q = r - wait;
-    if n < q {
-        return 0;
-    }
-    let sum = sums::tested(part, s, n, rows, u, q);
-    sums::put(part, s, n, u, q, sum)
-}
-
-// The same in a round in which every place is inside.
-fn rank_inside(
-    part: &mut [u8],
-    s: usize,
-    n: usize,
-    rows: &[usize],
-    delays: &[usize],
-    lead: usize,
-    starts: &[usize],
-    u: usize,
-    r: usize,
-) -> usize
-    requires system { ⌜ Solvable s n (now rows) ⌝ }
-    requires letters { ⌜ length (now part) ≡ s * n ⌝ }
-    requires delays { ⌜ Delays s (now rows) (now delays) ⌝ }
-    requires turn { ⌜ (1 ≤ u) × (u ≤ s) × Lead s (now rows) lead × Starts s n (now rows) lead (now starts) × (lead < r) × (r ≤ n) ⌝ }
-    ensures step { λ c. ⌜ Advanced s n (now (rows .entry)) (now (part .entry)) (now (part .exit)) (16 * r + u) (16 * r + (u + 1)) c ⌝ }
-    ensures bound { λ c. ⌜ c ≤ 16 ⌝ }
-{
-    let q = r - delays[u - 1];
-    let sum = sums::inside(part, s, starts, u, r - lead - 1);
-    sums::put(part, s, n, u, q, sum)
+    let starts = tables::starts(n, delays, below, hi, done);
+    earlier::take_out(part, s, n, rows, delays, below, hi, done, count);
+    turns::solve(part, exps, delays, &starts, below, hi, count);
 }

@@ -1,0 +1,3 @@
+-- What taking out leaves.
+pub mod Taken
+pub mod Steps
