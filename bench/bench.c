@@ -20,8 +20,8 @@ extern uint64_t bench_add_within(uint8_t *buffer, uint64_t buffer_len, uint64_t 
 #define AFTER_CALL(NAME) CALLGRIND_DUMP_STATS_AT(NAME)
 #endif
 
-static uint8_t file[1 << 20], got[1 << 20], want[1 << 20], in_blocks[1 << 20], input[1 << 20], node_packets[17][1 << 17], share[1 << 17];
-static uint64_t held[17], count_ours, count_plain, count_blocks, head_ours[6], head_plain[6], state[DULVASPEN_ARRIVING_WORDS];
+static uint8_t file[1 << 20], got[1 << 20], want[1 << 20], in_blocks[1 << 20], in_tiles[1 << 20], input[1 << 20], node_packets[17][1 << 17], share[1 << 17];
+static uint64_t held[17], count_ours, count_plain, count_blocks, count_tiles, head_ours[6], head_plain[6], state[DULVASPEN_ARRIVING_WORDS];
 static group g;
 
 static void stop(const char *what, uint64_t r) { fprintf(stderr, "bench: %s went wrong (%llu)\n", what, (unsigned long long)r); exit(1); }
@@ -103,8 +103,8 @@ static void packets(uint64_t letters) {
     summed("encode", made);
 }
 
-/* At odd lengths, with blocks and without, plain C in blocks must leave what the library does: for every node, and for every helper and rank of a
- * lost one. */
+/* At odd lengths, with blocks and without, plain C in blocks and in tiles must leave what the library does: for every node, and for every helper and rank
+ * of a lost one. */
 static void odd_lengths(void) {
     static const uint64_t lengths[] = {1, 127, 129, 333};
     for (int i = 0; i < 4; i++) {
@@ -127,6 +127,8 @@ static void odd_lengths(void) {
         for (uint64_t v = 1; v <= g.k; v++) ids[v - 1] = g.n + 1 - v;
         if (dulvaspen_recover(g.n, g.k, g.d, g.l, ids, g.k, got, letters, &count_ours) || plain_recover_blocks(g, ids, g.k, want, letters, &count_blocks)
             || count_ours != count_blocks || memcmp(got, want, letters)) stop("recover in blocks", g.l);
+        memcpy(want, file, letters);
+        if (plain_recover_tiles(g, ids, g.k, want, letters, &count_tiles) || count_ours != count_tiles || memcmp(got, want, letters)) stop("recover in tiles", g.l);
     }
 }
 
@@ -142,7 +144,9 @@ static void recovery(uint64_t letters) {
     MEASURE("recover", "ours", got, letters, dulvaspen_recover(g.n, g.k, g.d, g.l, ids, g.k, got, letters, &count_ours));
     MEASURE("recover", "plain", want, letters, plain_recover(g, ids, g.k, want, letters, &count_plain));
     MEASURE("recover", "blocks", in_blocks, letters, plain_recover_blocks(g, ids, g.k, in_blocks, letters, &count_blocks));
+    MEASURE("recover", "tiles", in_tiles, letters, plain_recover_tiles(g, ids, g.k, in_tiles, letters, &count_tiles));
     if (count_ours != count_plain || count_ours != count_blocks || memcmp(got, file, letters) || memcmp(in_blocks, file, letters)) stop("recover", 98);
+    if (count_ours != count_tiles || memcmp(got, in_tiles, letters)) stop("recover in tiles", 98);
     compare("recover", letters, count_ours);
     for (uint64_t u = 2; u <= g.d; u++)
         for (uint64_t v = 1; v < u && v <= g.k; v++)
@@ -172,7 +176,9 @@ static void repair(void) {
         dulvaspen_help(g.n, g.k, g.d, g.l, lost, helpers[u - 1], u, node_packets[helpers[u - 1]], held[helpers[u - 1]], input + (u - 1) * length, length);
     MEASURE("repair", "ours", got, g.d * length, dulvaspen_repair(g.n, g.k, g.d, g.l, lost, helpers, g.d, got, g.d * length, &count_ours));
     MEASURE("repair", "plain", want, g.d * length, plain_repair(g, lost, helpers, g.d, want, g.d * length, &count_plain));
+    MEASURE("repair", "tiles", in_tiles, g.d * length, plain_repair_tiles(g, lost, helpers, g.d, in_tiles, g.d * length, &count_tiles));
     if (count_ours != count_plain || memcmp(got, node_packets[lost], held[lost])) stop("repair", 98);
+    if (count_ours != count_tiles || memcmp(got, in_tiles, g.d * length)) stop("repair in tiles", 98);
     compare("repair", g.d * length, count_ours);
 }
 

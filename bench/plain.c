@@ -113,13 +113,15 @@ __attribute__((noinline)) static uint64_t solve(uint8_t *part, uint64_t s, uint6
     return count;
 }
 
-uint64_t plain_recover(group g, const uint64_t *ids, uint64_t ids_len, uint8_t *buffer, uint64_t buffer_len, uint64_t *count) {
+typedef uint64_t solver(uint8_t *part, uint64_t s, uint64_t n, const uint64_t *ids);
+
+static inline uint64_t recover_by(solver *solved, group g, const uint64_t *ids, uint64_t ids_len, uint8_t *buffer, uint64_t buffer_len, uint64_t *count) {
     uint64_t r = check_group(g), made = 0;
     if (!r) r = check_ids(g, g.k, ids, ids_len);
     if (!r && buffer_len != file_letters(g)) r = 5;
     if (r) return r;
     for (uint64_t u = g.d; u > 0; u--) {
-        made += solve(buffer + entry(g, 1, u), least(u, g.k), g.l, ids);
+        made += solved(buffer + entry(g, 1, u), least(u, g.k), g.l, ids);
         for (uint64_t c = 1; c <= least(u - 1, g.k); c++)
             for (uint64_t w = 1; w <= c; w++) {
                 uint64_t moved = t(ids[w - 1], u) - t(ids[w - 1], w);
@@ -132,14 +134,23 @@ uint64_t plain_recover(group g, const uint64_t *ids, uint64_t ids_len, uint8_t *
     return 0;
 }
 
-uint64_t plain_repair(group g, uint64_t lost, const uint64_t *helpers, uint64_t helpers_len, uint8_t *buffer, uint64_t buffer_len, uint64_t *count) {
+static inline uint64_t repair_by(solver *solved, group g, uint64_t lost, const uint64_t *helpers, uint64_t helpers_len, uint8_t *buffer, uint64_t buffer_len,
+                                 uint64_t *count) {
     uint64_t r = check_node(g, lost);
     if (!r) r = check_ids(g, g.d, helpers, helpers_len);
     if (r) return r;
     for (uint64_t i = 0; i < helpers_len; i++) if (helpers[i] == lost) return 4;
     if (buffer_len != node_letters(g, lost)) return 5;
-    *count = solve(buffer, g.d, piece_letters(g, lost), helpers);
+    *count = solved(buffer, g.d, piece_letters(g, lost), helpers);
     return 0;
+}
+
+uint64_t plain_recover(group g, const uint64_t *ids, uint64_t ids_len, uint8_t *buffer, uint64_t buffer_len, uint64_t *count) {
+    return recover_by(solve, g, ids, ids_len, buffer, buffer_len, count);
+}
+
+uint64_t plain_repair(group g, uint64_t lost, const uint64_t *helpers, uint64_t helpers_len, uint8_t *buffer, uint64_t buffer_len, uint64_t *count) {
+    return repair_by(solve, g, lost, helpers, helpers_len, buffer, buffer_len, count);
 }
 
 /* ---- the same in blocks: where every run of a sum has a letter, the sum is made in a local array, block by block, and laid down once; the ends
@@ -217,8 +228,8 @@ uint64_t plain_help_blocks(group g, uint64_t lost, uint64_t helper, uint64_t ran
 }
 
 /* Each column loses the later ones just before it is solved, in place of being lessened by each as soon as that is solved. */
-uint64_t plain_recover_blocks(group g, const uint64_t *ids, uint64_t ids_len, uint8_t *buffer, uint64_t buffer_len, uint64_t *count) {
-    if (g.l < BLOCK) return plain_recover(g, ids, ids_len, buffer, buffer_len, count);
+static inline uint64_t recover_blocks_by(solver *solved, group g, const uint64_t *ids, uint64_t ids_len, uint8_t *buffer, uint64_t buffer_len, uint64_t *count) {
+    if (g.l < BLOCK) return recover_by(solved, g, ids, ids_len, buffer, buffer_len, count);
     uint64_t r = check_group(g), made = 0;
     if (!r) r = check_ids(g, g.k, ids, ids_len);
     if (!r && buffer_len != file_letters(g)) r = 5;
@@ -241,10 +252,103 @@ uint64_t plain_recover_blocks(group g, const uint64_t *ids, uint64_t ids_len, ui
             }
             if (middle) sum_blocks(1, to + start, middle, from, reached - v);
         }
-        made += solve(buffer + entry(g, 1, v), least(v, g.k), g.l, ids);
+        made += solved(buffer + entry(g, 1, v), least(v, g.k), g.l, ids);
     }
     *count = made;
     return 0;
+}
+
+uint64_t plain_recover_blocks(group g, const uint64_t *ids, uint64_t ids_len, uint8_t *buffer, uint64_t buffer_len, uint64_t *count) {
+    return recover_blocks_by(solve, g, ids, ids_len, buffer, buffer_len, count);
+}
+
+/* ---- the solver run by run: the rounds are cut where a rank begins or ends, and each tile is solved by Newton's interpolation over D, which moves
+ * a run by one letter ---- */
+enum { TILE = 2048, SHORT = 40 }; /* the most rounds of a tile; the fewest letters of a run that goes in blocks */
+
+#define ADD_EIGHT(TO, FROM) do { \
+    uint64_t a_, b_; \
+    memcpy(&a_, TO, 8); memcpy(&b_, FROM, 8); \
+    a_ ^= b_; \
+    memcpy(TO, &a_, 8); } while (0)
+#define ADD_SIXTEENS(MANY, TO, FROM) do { \
+    sixteen a_[MANY], b_[MANY]; \
+    memcpy(a_, TO, 16 * MANY); memcpy(b_, FROM, 16 * MANY); \
+    for (int j_ = 0; j_ < MANY; j_++) a_[j_] ^= b_[j_]; \
+    memcpy(TO, a_, 16 * MANY); } while (0)
+
+/* to ^= from, from the last letter down, each block taken before it is added: the runs are apart, or `from` is the earlier one. */
+static void add_falling(uint8_t *to, const uint8_t *from, uint64_t count) {
+    for (; count & 7; count--) to[count - 1] ^= from[count - 1];
+    if (count & 8) { count -= 8; ADD_EIGHT(to + count, from + count); }
+    if (count & 16) { count -= 16; ADD_SIXTEENS(1, to + count, from + count); }
+    if (count & 32) { count -= 32; ADD_SIXTEENS(2, to + count, from + count); }
+    if (count & 64) { count -= 64; ADD_SIXTEENS(4, to + count, from + count); }
+    while (count) { count -= 128; ADD_SIXTEENS(8, to + count, from + count); }
+}
+
+/* Divided by 1 + D^w, which is to say times 1 + D^w and divided by 1 + D^2w. Where the stride is a multiple of sixteen, a step reads what one step before it
+ * stored, neither parts of two, for which the processor would have to wait. */
+static void divide(uint8_t *x, uint64_t count, uint64_t w) {
+    uint64_t p;
+    if (count >= SHORT) {
+        for (; w < count && w % 16; w += w) add_falling(x + w, x, count - w);
+        for (p = w; p + 16 <= count; p += 16) ADD_SIXTEENS(1, x + p, x + p - w);
+    } else p = w;
+    for (; p < count; p++) x[p] ^= x[p - w];
+}
+
+static uint64_t count_of(uint64_t s, uint64_t n, const uint64_t *ids) {
+    uint64_t count = 0;
+    for (uint64_t b = 1; b <= s; b++)
+        for (uint64_t a = 1; a <= s; a++)
+            if (a != b) count += gap(n, (ids[b - 1] - 1) * (a < b ? b - a : a - b));
+    return count;
+}
+
+/* One tile: the `count` rounds after `done`, in which ranks lo .. hi - 1 have a letter. */
+static void tile(uint8_t *part, uint64_t n, const uint64_t *ids, const uint64_t *delay, uint64_t lo, uint64_t hi, uint64_t done, uint64_t count) {
+    uint8_t *run[16];
+    for (uint64_t b = lo; b < hi; b++) {
+        run[b] = part + b * n + done - delay[b];
+        for (uint64_t a = 0; a < hi; a++) { /* what is read from before the tile */
+            int64_t at = (int64_t)(done - delay[b]) + (int64_t)t(ids[b], b + 1) - (int64_t)t(ids[b], a + 1);
+            int64_t skip = at < 0 ? -at : 0, end = (int64_t)least(least(n, done - delay[a]), (uint64_t)(at + (int64_t)count));
+            if (a != b && at + (int64_t)count > 0 && end > at + skip) add_falling(run[b] + skip, part + a * n + at + skip, (uint64_t)(end - at - skip));
+        }
+    }
+    for (uint64_t j = lo; j < hi; j++)
+        for (uint64_t b = j + 1; b < hi; b++) {
+            uint64_t lag = delay[b] - delay[j] - (ids[b] - 1) * (b - j), w = ids[j] - ids[b];
+            if (lag < count) add_falling(run[b] + lag, run[j], count - lag);
+            if (w < count) divide(run[b], count, w);
+        }
+    for (uint64_t j = hi; j-- > lo;)
+        for (uint64_t b = j + 1; b < hi; b++) {
+            uint64_t w = ids[j] - ids[b];
+            if (w < count) add_falling(run[b - 1] + w, run[b], count - w);
+        }
+}
+
+__attribute__((noinline)) static uint64_t solve_tiles(uint8_t *part, uint64_t s, uint64_t n, const uint64_t *ids) {
+    uint64_t delay[16] = {0};
+    for (uint64_t u = 1; u < s; u++) delay[u] = delay[u - 1] + ids[u] - 1;
+    for (uint64_t done = 0, lo = 0, hi = 0, end; done < n + delay[s - 1]; done = end) {
+        while (hi < s && delay[hi] <= done) hi++;
+        while (lo < hi && n + delay[lo] <= done) lo++;
+        end = least(done + TILE, n + delay[lo]);
+        if (hi < s) end = least(end, delay[hi]);
+        tile(part, n, ids, delay, lo, hi, done, end - done);
+    }
+    return count_of(s, n, ids);
+}
+
+uint64_t plain_recover_tiles(group g, const uint64_t *ids, uint64_t ids_len, uint8_t *buffer, uint64_t buffer_len, uint64_t *count) {
+    return recover_blocks_by(solve_tiles, g, ids, ids_len, buffer, buffer_len, count);
+}
+
+uint64_t plain_repair_tiles(group g, uint64_t lost, const uint64_t *helpers, uint64_t helpers_len, uint8_t *buffer, uint64_t buffer_len, uint64_t *count) {
+    return repair_by(solve_tiles, g, lost, helpers, helpers_len, buffer, buffer_len, count);
 }
 
 /* ---- shares: block by block, with memcpy ---- */

@@ -15,6 +15,9 @@ uint64_t plain_encode_blocks(group g, uint64_t node, const uint8_t *file, uint64
 uint64_t plain_help_blocks(group g, uint64_t lost, uint64_t helper, uint64_t rank, const uint8_t *packets, uint64_t packets_len, uint8_t *piece,
                            uint64_t piece_len);
 uint64_t plain_recover_blocks(group g, const uint64_t *ids, uint64_t ids_len, uint8_t *buffer, uint64_t buffer_len, uint64_t *count);
+/* The same with the solver run by run: recover, with sums in blocks, and repair. */
+uint64_t plain_recover_tiles(group g, const uint64_t *ids, uint64_t ids_len, uint8_t *buffer, uint64_t buffer_len, uint64_t *count);
+uint64_t plain_repair_tiles(group g, uint64_t lost, const uint64_t *helpers, uint64_t helpers_len, uint8_t *buffer, uint64_t buffer_len, uint64_t *count);
 uint64_t plain_write(group g, uint64_t node, uint32_t batch, const uint8_t *packets, uint64_t packets_len, uint8_t *share, uint64_t share_len);
 uint64_t plain_judge(const uint8_t *share, uint64_t share_len, uint64_t *head);
 uint64_t plain_read(const uint8_t *share, uint64_t share_len, uint8_t *packets, uint64_t packets_len, uint64_t *head);
