@@ -1,12 +1,9 @@
 -- Delays of small shifts are small, and where each stands in an array of them.
-use mathlib.Core.Path.{_≡_, ap, _∙_}
 use mathlib.Core.List.{List}
-use Prim.Native.Nat.{ℕ, zero, suc, _+_, _*_, _≤_, _<_}
+use Prim.Native.Nat.{ℕ, zero, suc, _*_, _≤_}
 use native.Mathlib.Omega.{arith}
-use lib.ListN.{getD}
 use Rattle.system.specs.Order.{delay}
 use Rattle.equation.specs.Rows.{shiftIn, Rows}
-use Rattle.equation.specs.Delays.{Delays}
 
 -- at most 65535 rounds for each rank
 pub delay-small : (s : ℕ) (rows : List ℕ) → Rows s rows → (u : ℕ) → u ≤ s → delay (shiftIn rows) u ≤ 65535 * u
@@ -16,7 +13,3 @@ delay-small s rows r (suc zero) h = omega arith
 delay-small s rows r (suc (suc u)) h =
     omega
     (arith, delay-small s rows r (suc u) (omega arith), r .small (suc (suc u)) (suc (suc u)) (omega arith) h (omega arith) h)
-
--- the delay of the rank after index u
-pub delay-at : (s : ℕ) (rows delays : List ℕ) → Delays s rows delays → (u : ℕ) → u < s → getD delays u 0 ≡ delay (shiftIn rows) (u + 1)
-delay-at s rows delays d u h = ap (λ i. getD delays i 0) (omega arith) ∙ d .each (u + 1) (omega arith) (omega arith)

@@ -6,8 +6,8 @@ use mathlib.Core.Logic.{_⊎_, inl, inr, ⊎-elim}
 use Prim.Native.Nat.{ℕ, _+_, _-_, _≤_, _<_}
 use native.Mathlib.Nat.{zero-add}
 use native.Mathlib.Omega.{arith}
-use lib.ListN.{length, getD, set, take, drop, length-drop, List·getD-eq-default}
-use lib.Seq.{getD-set-same, getD-set-other, getD-drop, getD-take, length-take-le}
+use lib.ListN.{length, getD, take, drop, length-drop, List·getD-eq-default}
+use lib.Seq.{getD-drop, getD-take, length-take-le}
 use borrow.Author.Tests.{lt-ltb, le-ltb, le-leb, lt-leb}
 use Rattle.letters.specs.Places.{both, inside, letter}
 use Rattle.letters.proofs.Cases.{le-or-lt}
@@ -45,26 +45,6 @@ module _ {A : Type 0} (none : A) (xs : List A) (start n p : ℕ) where
   pub letter-above : n < p → letter none xs start n p ≡ none
   unfolding letter
   letter-above h = simp (inside-above n p h)
-
-  -- after a store at the letter's own index
-  pub letter-stored :
-      (i : ℕ) (a : A) → 1 ≤ p → p ≤ n → i ≡ start + (p - 1) → i < length xs → letter none (set xs i a) start n p ≡ a
-  unfolding letter
-  letter-stored i a lo hi e h = simp (inside-true n p lo hi) (ap (λ j. getD (set xs i a) j none) (sym e) ∙ getD-set-same xs i a none h)
-
-  -- after a store at any other index
-  pub letter-kept :
-      (i : ℕ) (a : A) → ((1 ≤ p) × (p ≤ n) → i ≡ start + (p - 1) → ⊥)
-      → letter none (set xs i a) start n p ≡ letter none xs start n p
-  unfolding letter
-  letter-kept i a other =
-      ⊎-elim
-      (λ w.
-      simp (inside-true n p (w .0) (w .1))
-      (getD-set-other xs i (start + (p - 1)) a none (λ e. other (w .0, w .1) (sym e))))
-      (λ out.
-      ⊎-elim (λ z. simp (inside-below n p z)) (λ above. simp (inside-above n p above)) out)
-      (place-cases n p)
 
 -- two runs of one length that have the same letters have the same letter at every place
 pub letter-same :

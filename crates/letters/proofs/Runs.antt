@@ -1,7 +1,7 @@
 -- Laws of lists added to each other: their lengths, the letter at any index, and what several runs added come to.
 use mathlib.Core.Path.{_≡_, refl, sym, ap, ap₂, _∙_}
 use mathlib.Core.List.{List, [], _∷_, _++_}
-use mathlib.Core.Logic.{_⊎_, ⊎-elim, ⊎-map}
+use mathlib.Core.Logic.{_⊎_, ⊎-elim}
 use Prim.Native.Nat.{ℕ, zero, suc, _+_, _-_, _≤_, _<_}
 use native.Mathlib.Nat.{sub-zero, suc-sub-suc}
 use native.Mathlib.Numerals.{add-one}
@@ -12,7 +12,7 @@ use Rattle.letters.specs.Algebra.{Adding}
 use Rattle.letters.specs.Places.{letter}
 use Rattle.letters.specs.Runs.{xored, added}
 use Rattle.letters.proofs.Cases.{le-or-lt}
-use Rattle.letters.proofs.Places.{place-cases, letter-zero, letter-above, letter-of-all, letter-of-nothing}
+use Rattle.letters.proofs.Places.{letter-zero, letter-above, letter-of-all, letter-of-nothing}
 use Rattle.letters.proofs.Sums.{none-plus}
 
 module _ {A : Type 0} (𝓐 : Adding A) where
@@ -119,27 +119,6 @@ module _ {A : Type 0} (𝓐 : Adding A) where
 
   length-both : (xs : List A) (a b : ℕ) (ys zs : List A) → length (added 𝓐 (added 𝓐 xs a ys) b zs) ≡ length xs
   length-both xs a b ys zs = length-added (added 𝓐 xs a ys) b zs ∙ length-added xs a ys
-
-  -- the letter at a place of an XOR is the sum of the two letters there
-  pub letter-xored :
-      (ys zs : List A) (p : ℕ) → length zs ≤ length ys
-      → letter (𝓐 .none) (xored 𝓐 ys zs) 0 (length (xored 𝓐 ys zs)) p
-      ≡ 𝓐 .plus (letter (𝓐 .none) ys 0 (length ys) p) (letter (𝓐 .none) zs 0 (length zs) p)
-  letter-xored ys zs p h =
-      ⊎-elim
-      (λ w.
-      let e : p ≡ (p - 1) + 1 = omega arith in
-      letter-of-all (𝓐 .none) (xored 𝓐 ys zs) (p - 1) p e
-      ∙ getD-xored ys zs (p - 1) (omega arith)
-      ∙ ap₂ (𝓐 .plus) (sym (letter-of-all (𝓐 .none) ys (p - 1) p e)) (sym (letter-of-all (𝓐 .none) zs (p - 1) p e)))
-      (λ out.
-      outside (𝓐 .none) (xored 𝓐 ys zs) p (⊎-map (λ z. z) (λ a. rw length-xored a) out)
-      ∙ sym (𝓐 .plus-none (𝓐 .none))
-      ∙ ap₂ (𝓐 .plus) (sym (outside (𝓐 .none) ys p out)) (sym (outside (𝓐 .none) zs p (⊎-map (λ z. z) (λ a. omega arith) out))))
-      (place-cases (length ys) p)
-    where
-      outside : (none : A) (xs : List A) (p : ℕ) → (p ≡ 0) ⊎ (length xs < p) → letter none xs 0 (length xs) p ≡ none
-      outside none xs p out = ⊎-elim (letter-zero none xs 0 (length xs) p) (letter-above none xs 0 (length xs) p) out
 
   -- the letter at a place of two lists in a row is one or the other's
   pub letter-append :

@@ -1,17 +1,14 @@
 -- Laws of the system's definitions: what a sequence in a buffer has at a place, also after a store, and that parts, delays and costs read nothing but the shifts of their ranks.
-use mathlib.Core.Path.{_≡_, refl, sym, ap, ap₂, subst, _∙_}
+use mathlib.Core.Path.{_≡_, refl, ap, ap₂, _∙_}
 use mathlib.Core.List.{List}
-use mathlib.Core.Logic.{⊎-elim}
 use Prim.Native.Nat.{ℕ, _+_, _-_, _*_, _≤_, _<_}
-use native.Mathlib.Nat.{eq-or-lt-of-le, mul-le-mul-right, add-mul, one-mul}
+use native.Mathlib.Nat.{mul-le-mul-right, add-mul, one-mul}
 use native.Mathlib.Omega.{arith}
-use lib.ListN.{length, getD, set}
-use Rattle.letters.specs.Algebra.{Adding, counts, sum}
-use Rattle.letters.proofs.Cases.{le-or-lt}
-use Rattle.letters.proofs.Places.{letter-inside, letter-zero, letter-above, letter-stored, letter-kept}
+use lib.ListN.{getD}
+use Rattle.letters.specs.Algebra.{Adding}
+use Rattle.letters.proofs.Places.{letter-inside, letter-zero, letter-above}
 use Rattle.letters.proofs.Sums.{sum-same}
 use Rattle.system.specs.System.{part, sequence, Sequences}
-use Rattle.system.specs.Count.{cost, other, distance}
 
 -- the index of letter p of sequence a, in a buffer of sequences of n letters
 abbrev pub indexOf : ℕ → ℕ → ℕ → ℕ
@@ -32,21 +29,6 @@ rank-after a = omega arith
 pub index-below : (s n a p : ℕ) → 1 ≤ a → a ≤ s → 1 ≤ p → p ≤ n → indexOf n a p < s * n
 index-below s n a p la ha lp hp = omega (arith, rows-apart n a (s + 1) la (omega arith), ap (λ m. m * n) (rank-after s))
 
--- the same for the rank after a, as a loop over indices has it
-pub index-after : (s n a p : ℕ) → a < s → 1 ≤ p → p ≤ n → a * n + (p - 1) < s * n
-index-after s n a p h lp hp =
-    subst (λ m. m * n + (p - 1) < s * n) (rank-after a) (index-below s n (a + 1) p (omega arith) (omega arith) lp hp)
-
--- one index, one letter
-pub index-one :
-    (n a p b q : ℕ) → 1 ≤ a → 1 ≤ b → 1 ≤ p → p ≤ n → 1 ≤ q → q ≤ n → indexOf n a p ≡ indexOf n b q → (a ≡ b) × (p ≡ q)
-index-one n a p b q la lb lp hp lq hq e =
-    ⊎-elim
-    (λ h.
-    ⊎-elim (λ same. (same, omega (arith, ap (λ m. (m - 1) * n) same)))
-    (λ below. absurd (omega (arith, rows-apart n a b la below))) (eq-or-lt-of-le h))
-    (λ above. absurd (omega (arith, rows-apart n b a lb above))) (le-or-lt a b)
-
 module _ {A : Type 0} (none : A) (xs : List A) (n : ℕ) where
   pub sequence-inside : (a p : ℕ) → 1 ≤ p → p ≤ n → sequence none xs n a p ≡ getD xs (indexOf n a p) none
   unfolding sequence
@@ -65,22 +47,6 @@ module _ {A : Type 0} (none : A) (xs : List A) (n : ℕ) where
         nothing-above = λ a p h. letter-above none xs ((a - 1) * n) n p h;
       }
 
-  -- after a store at the letter's own index
-  pub sequence-stored :
-      (a p : ℕ) (v : A) → 1 ≤ p → p ≤ n → indexOf n a p < length xs
-      → sequence none (set xs (indexOf n a p) v) n a p ≡ v
-  unfolding sequence
-  sequence-stored a p v lo hi h = letter-stored none xs ((a - 1) * n) n p (indexOf n a p) v lo hi refl h
-
-  -- after a store at another letter's
-  pub sequence-kept :
-      (a p b q : ℕ) (v : A) → 1 ≤ a → 1 ≤ b → 1 ≤ q → q ≤ n → ((a ≡ b) × (p ≡ q) → ⊥)
-      → sequence none (set xs (indexOf n b q) v) n a p ≡ sequence none xs n a p
-  unfolding sequence
-  sequence-kept a p b q v la lb lq hq apart =
-      letter-kept none xs ((a - 1) * n) n p (indexOf n b q) v
-      (λ w e. apart (index-one n a p b q la lb (w .0) (w .1) lq hq (sym e)))
-
 -- a part reads its own rank's shifts, and each sequence at one place
 pub part-same :
     {A : Type 0} (𝓐 : Adding A) (s : ℕ) (t t′ : ℕ → ℕ → ℕ) (x y : ℕ → ℕ → A) (b p : ℕ)
@@ -94,14 +60,3 @@ pub part-shifts :
     → ((b a : ℕ) → 1 ≤ b → b ≤ s → 1 ≤ a → a ≤ s → t b a ≡ t′ b a) → part 𝓐 s t x b p ≡ part 𝓐 s t′ x b p
 part-shifts 𝓐 s t t′ x b p lb hb e =
     part-same 𝓐 s t t′ x x b p (λ a la ha. ap₂ (λ m k. x a ((p + m) - k)) (e b b lb hb lb hb) (e b a lb hb la ha))
-
--- and the same cost
-pub cost-shifts :
-    (s n : ℕ) (t t′ : ℕ → ℕ → ℕ) → ((b a : ℕ) → 1 ≤ b → b ≤ s → 1 ≤ a → a ≤ s → t b a ≡ t′ b a) → cost s n t ≡ cost s n t′
-unfolding cost
-cost-shifts s n t t′ e =
-    sum-same counts s (λ b. sum counts s (λ a. other a b (n - distance (t b a) (t b b))))
-    (λ b. sum counts s (λ a. other a b (n - distance (t′ b a) (t′ b b))))
-    (λ b lb hb.
-    sum-same counts s (λ a. other a b (n - distance (t b a) (t b b))) (λ a. other a b (n - distance (t′ b a) (t′ b b)))
-    (λ a la ha. ap₂ (λ k m. other a b (n - distance k m)) (e b a lb hb la ha) (e b b lb hb lb hb)))

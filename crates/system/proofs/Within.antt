@@ -1,9 +1,8 @@
--- What counts of the places inside 1..n and of the other ranks, read off where the place is and which the ranks are.
+-- What counts of the places inside 1..n, read off where the place is.
 use mathlib.Core.Path.{_≡_, refl}
 use Prim.Native.Nat.{ℕ, _≤_, _<_}
-use borrow.Author.Tests.{eq-eqb, ne-eqb}
 use Rattle.letters.proofs.Places.{inside-true, inside-below, inside-above}
-use Rattle.system.specs.Count.{other, within}
+use Rattle.system.specs.Count.{within}
 
 module _ (n p m : ℕ) where
   pub within-inside : 1 ≤ p → p ≤ n → within n p m ≡ m
@@ -14,10 +13,3 @@ module _ (n p m : ℕ) where
 
   pub within-above : n < p → within n p m ≡ 0
   within-above h = rw (inside-above n p h) refl
-
-module _ (a b m : ℕ) where
-  pub other-same : a ≡ b → other a b m ≡ 0
-  other-same e = rw (eq-eqb a b e) refl
-
-  pub other-apart : (a ≡ b → ⊥) → other a b m ≡ m
-  other-apart ne = rw (ne-eqb a b ne) refl

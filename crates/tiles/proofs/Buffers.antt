@@ -1,23 +1,18 @@
 -- The runs of a tile in a buffer of sequences: where letters of one change alone, nothing else does, since the runs of two ranks lie in two sequences and never meet.
-use mathlib.Core.Path.{_≡_, refl, sym, ap, _∙_}
+use mathlib.Core.Path.{_≡_, sym, ap, _∙_}
 use mathlib.Core.List.{List}
 use mathlib.Core.Logic.{_⊎_, inl, inr, ⊎-elim}
 use Prim.Native.Nat.{ℕ, _+_, _-_, _*_, _≤_, _<_}
 use native.Mathlib.Nat.{eq-or-lt-of-le}
 use native.Mathlib.Omega.{arith}
 use lib.ListN.{getD}
-use Rattle.letters.specs.Algebra.{Adding}
 use Rattle.letters.proofs.Cases.{le-or-lt}
 use Rattle.system.specs.System.{sequence}
 use Rattle.system.specs.Order.{delay}
 use Rattle.system.proofs.System.{indexOf, index-below, sequence-inside}
-use Rattle.tiles.specs.Turns.{Nothing, Only}
+use Rattle.tiles.specs.Turns.{Only}
 use Rattle.tiles.specs.Tile.{runOf, startOf, Tile, Within}
-use Rattle.tiles.proofs.Runs.{run-inside, run-zero}
-
--- runs have no letter at place 0
-pub run-nothing : {A : Type 0} (𝓐 : Adding A) (t : ℕ → ℕ → ℕ) (done m : ℕ) (x : ℕ → ℕ → A) → Nothing 𝓐 (runOf (𝓐 .none) t done m x)
-run-nothing 𝓐 t done m x a = run-zero (𝓐 .none) t done m x a 0 refl
+use Rattle.tiles.proofs.Runs.{run-inside}
 
 -- The run of rank b of a tile, in a buffer of sequences.
 module _ (s n : ℕ) (t : ℕ → ℕ → ℕ) (done m below hi : ℕ) (tile : Tile s n t done m below hi) (b : ℕ) (lb : below < b) (hb : b ≤ hi) where

@@ -2,7 +2,7 @@
 use mathlib.Core.Path.{_≡_, sym, ap, _∙_}
 use mathlib.Core.Logic.{⊎-elim}
 use Prim.Native.Nat.{ℕ, suc, _+_, _-_, _*_, _≤_, _<_}
-use native.Mathlib.Nat.{mul-add, mul-one, mul-zero, eq-or-lt-of-le}
+use native.Mathlib.Nat.{mul-add, mul-one, eq-or-lt-of-le}
 use native.Mathlib.Decide.{le-ind}
 use native.Mathlib.Numerals.{add-one}
 use native.Mathlib.Omega.{arith}
@@ -33,11 +33,6 @@ pub lag-own : (t : ℕ → ℕ → ℕ) (b : ℕ) → lag t b b ≡ 0
 unfolding lag
 lag-own t b = omega arith
 
--- and that of a higher rank in an earlier round
-pub lag-higher : (s : ℕ) (t : ℕ → ℕ → ℕ) → Ordered s t → (b a : ℕ) → 1 ≤ b → b < a → a ≤ s → 1 ≤ lag t b a
-unfolding lag
-lag-higher s t o b a lb h ha = omega (arith, o .from-higher a b lb h ha)
-
 -- The place that an equation reads is, in rounds, lag b a rounds before its own
 pub place-by-lag :
     (s : ℕ) (t : ℕ → ℕ → ℕ) → Ordered s t → (b a p : ℕ) → 1 ≤ b → b ≤ s → 1 ≤ a → a ≤ s
@@ -58,24 +53,6 @@ module _ (s : ℕ) (t : ℕ → ℕ → ℕ) (e : ℕ → ℕ) (even : Even s t 
     where
       product : (x a : ℕ) → 1 ≤ a → x * ((a + 1) - 1) ≡ x * (a - 1) + x
       product x a h = ap (λ m. x * m) (omega arith) ∙ mul-add x (a - 1) 1 ∙ ap (λ m. x * (a - 1) + m) (mul-one x)
-
-  -- the second column holds the exponents, where there is one; where there is none, any will do
-  pub even-second : Even s t (λ b. t b 2)
-  even-second =
-      record {
-        products =
-            λ b a lb hb la ha.
-            ⊎-elim
-            (λ two.
-            even .products b a lb hb la ha
-            ∙ ap (λ m. m * (a - 1)) (sym (even .products b 2 lb hb (omega arith) two ∙ mul-one (e b))))
-            (λ one.
-            even .products b a lb hb la ha ∙ no-columns (e b) (a - 1) (omega arith) ∙ sym (no-columns (t b 2) (a - 1) (omega arith)))
-            (le-or-lt 2 s);
-      }
-    where
-      no-columns : (x k : ℕ) → k ≡ 0 → x * k ≡ 0
-      no-columns x k h = ap (λ m. x * m) h ∙ mul-zero x
 
   -- each rank waits for its exponent more than the one before it
   pub delay-even : (b : ℕ) → 1 ≤ b → b + 1 ≤ s → delay t (b + 1) ≡ delay t b + e (b + 1)

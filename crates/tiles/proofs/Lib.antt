@@ -1,13 +1,10 @@
 -- Why solving in whole runs is right.
 pub mod Even
-pub mod Ruled
 pub mod Spans
 pub mod Turn
 pub mod Stages
-pub mod Sums
 pub mod Steps
 pub mod Runs
 pub mod Taking
 pub mod Tile
 pub mod Buffers
-pub mod Indices

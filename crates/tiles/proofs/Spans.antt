@@ -59,14 +59,6 @@ module _ {A : Type 0} (𝓐 : Adding A) where
       moved : (i j u : ℕ) → j ≡ i + 1 → (i + u) + 1 ≡ j + u
       moved i j u e = omega arith
 
-  -- one term
-  pub span-one : (i j : ℕ) (f : ℕ → A) → j ≡ i + 1 → span 𝓐 i j f ≡ f j
-  unfolding span
-  span-one i j f e =
-      span-last i i j f (omega arith) e
-      ∙ ap (λ x. 𝓐 .plus x (f j)) (span-none i i f (λ a lo up. absurd (omega arith)))
-      ∙ none-plus 𝓐 (f j)
-
   -- the first term by itself
   pub span-first : (i j hi : ℕ) (f : ℕ → A) → j ≡ i + 1 → j ≤ hi → span 𝓐 i hi f ≡ 𝓐 .plus (f j) (span 𝓐 j hi f)
   unfolding span

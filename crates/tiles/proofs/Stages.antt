@@ -1,14 +1,13 @@
 -- The turns of a tile, down and up: each stage follows from the one before, and at the end the runs solve the tile. This is one induction from the back, which each stage carries with it.
-use mathlib.Core.Path.{_≡_, refl, sym, ap, subst, _∙_}
+use mathlib.Core.Path.{_≡_, sym, ap, subst, _∙_}
 use Prim.Native.Nat.{ℕ, suc, _+_, _-_, _≤_}
 use native.Mathlib.Numerals.{add-one}
 use native.Mathlib.Nat.{add-zero}
 use native.Mathlib.Omega.{arith}
 use Rattle.letters.specs.Algebra.{Letters}
 use Rattle.tiles.specs.Even.{Lags}
-use Rattle.tiles.specs.Turns.{Nothing, Lowered, Raised}
+use Rattle.tiles.specs.Turns.{Lowered, Raised}
 use Rattle.tiles.specs.Stages.{Solves, Up, Down}
-use Rattle.tiles.proofs.Spans.{span-one}
 use Rattle.tiles.proofs.Turn.{turn-undone}
 
 module _ {A : Type 0} (𝓛 : Letters A) (below hi m : ℕ) (lag : ℕ → ℕ → ℕ) (e : ℕ → ℕ) (g : ℕ → ℕ → A) where
@@ -35,23 +34,6 @@ module _ {A : Type 0} (𝓛 : Letters A) (below hi m : ℕ) (lag : ℕ → ℕ �
       raised .lower a la (omega arith) p lp hp
       ∙ same a la (omega arith) p lp hp
       ∙ lowered .lower a la (omega arith) p lp hp))
-
-  -- after the last turn down the last run is by itself, so the runs solve what is left
-  pub down-up :
-      Lags below hi lag e → (k : ℕ) → hi ≡ (below + k) + 1 → (x : ℕ → ℕ → A) → Nothing (𝓛 .adding) x
-      → Down (𝓛 .adding) below hi m lag e g k x → Up (𝓛 .adding) below hi m lag e g k x
-  unfolding Down Up
-  down-up lags k last x empty down =
-      down x empty
-      (λ b p lb hb lp hp.
-      let here : b ≡ hi = omega arith in
-      ap (x b) (unmoved p (lag b hi) (ap (λ c. lag c hi) here ∙ lags .own hi (omega arith) (omega arith)))
-      ∙ ap (λ c. x c (p - lag b hi)) here
-      ∙ sym (span-one (𝓛 .adding) (below + k) hi (λ a. x a (p - lag b a)) last))
-      (λ a la ha p lp hp. refl)
-    where
-      unmoved : (p d : ℕ) → d ≡ 0 → p ≡ p - d
-      unmoved p d h = omega arith
 
   -- a turn up
   pub up-turn :

@@ -42,12 +42,3 @@ pub record Raised {A : Type 0} (𝓐 : Adding A) (below hi m : ℕ) (e : ℕ →
       (b p : ℕ) → j ≤ b → b < c → 1 ≤ p → p ≤ m
       → x′ b p ≡ 𝓐 .plus (x b p) (x (b + 1) (p - (e j - e (b + 1))))
   pub upper : (a : ℕ) → c ≤ a → a ≤ hi → Same m (x a) (x′ a)
-
--- A running sum has come to place i: summed up there, and as it was after it.
-pub record SummedUpTo {A : Type 0} (𝓐 : Adding A) (m w i : ℕ) (x x′ : ℕ → A) : Type 0 where
-  pub summed : (p : ℕ) → 1 ≤ p → p ≤ i → p ≤ m → x′ p ≡ 𝓐 .plus (x p) (x′ (p - w))
-  pub rest : (p : ℕ) → i < p → p ≤ m → x′ p ≡ x p
-
--- To sum x up in strides of w is now to sum x′ up in strides of w′.
-abbrev pub Doubled : {A : Type 0} → Adding A → ℕ → ℕ → (ℕ → A) → ℕ → (ℕ → A) → Type 0
-Doubled {A} 𝓐 m w x w′ x′ = (y : ℕ → A) → y 0 ≡ 𝓐 .none → SummedUp 𝓐 m w′ x′ y → SummedUp 𝓐 m w x y

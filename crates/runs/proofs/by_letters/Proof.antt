@@ -54,7 +54,7 @@ loop-again c =
       omega arith,
       simp length-set (l .inv .2),
       summed-one (a .part .now) (l .part) (a .start + a .w) (a .start + l .i) (a .start + (l .i + 1)) (a .start + (l .i - a .w)) (a .w) (omega arith)
-      (omega arith) (omega arith) (omega arith) (omega arith) (omega arith) (l .inv .3),
+          (omega arith) (omega arith) (omega arith) (omega arith) (omega arith) (l .inv .3),
     )
 
 same-length : tie.Need-same-length Inv-loop μ-loop

@@ -53,7 +53,7 @@ returns-2 c =
     let a = s .args in
     let fits = block-fits (a .count) (a .width) (a .i) (omega arith) (s .pre .1 .0) (omega arith) in (
       summed-block (a .part .now) _ (a .to + a .i) (a .from + a .i) (a .width) (a .to + (a .i + a .width)) (a .to - a .from) (omega arith) (omega arith)
-      (omega arith) (omega (arith, fits)) (c .before .before .add-block .ensures),
+          (omega arith) (omega (arith, fits)) (c .before .before .add-block .ensures),
       (omega arith, one-block (a .count) (a .width) (a .i) (omega arith) (s .pre .1 .0) (omega arith)),
     )
 

@@ -43,8 +43,7 @@ loop-again c =
     let l = c .before .before .before .before .before .loop in
     let a = c .before .before .before .before .before .before .before .args in
     let block = summed-block (l .part) _ (a .to + l .i) (a .from + l .i) step (a .to + (l .i + step)) (a .to - a .from) (omega arith) (omega arith)
-        (omega arith) (omega arith) (c .before .before .add-block .ensures) in
-    (
+    (omega arith) (omega arith) (c .before .before .add-block .ensures) in (
       omega arith,
       omega arith,
       search needs,

@@ -36,9 +36,15 @@ returns c = let s = c .before .before .before .before .before .before in
     let next = s .pre .0 .6 .next (omega arith) in
     record {
       onward =
-          omega (arith, c .lesser2 .ensures, c .before .before .before .lesser .ensures, nth-next (s .args .delays .now) (s .args .below),
-          nth-next (s .args .delays .now) (s .args .hi), still-going (s .args .s) (s .args .n) (s .args .delays .now) (s .args .below) (s .args .hi)
-          (s .args .done) (omega arith) (omega arith) (s .pre .0 .6) (s .pre .0 .7));
+          omega (
+            arith,
+            c .lesser2 .ensures,
+            c .before .before .before .lesser .ensures,
+            nth-next (s .args .delays .now) (s .args .below),
+            nth-next (s .args .delays .now) (s .args .hi),
+            still-going (s .args .s) (s .args .n) (s .args .delays .now) (s .args .below) (s .args .hi)
+                (s .args .done) (omega arith) (omega arith) (s .pre .0 .6) (s .pre .0 .7),
+          );
       lasting = omega (arith, c .lesser2 .ensures, c .before .before .before .lesser .ensures, nth-next (s .args .delays .now) (s .args .below));
       before-next = λ h. omega (arith, c .lesser2 .ensures, nth-next (s .args .delays .now) (s .args .hi));
     }
@@ -47,8 +53,13 @@ returns-2 : tie.Need-returns-2
 returns-2 c = let s = c .before .before .before .before in
     record {
       onward =
-          omega (arith, c .before .lesser .ensures, nth-next (s .args .delays .now) (s .args .below), still-going (s .args .s) (s .args .n)
-          (s .args .delays .now) (s .args .below) (s .args .hi) (s .args .done) (omega arith) (omega arith) (s .pre .0 .6) (s .pre .0 .7));
+          omega (
+            arith,
+            c .before .lesser .ensures,
+            nth-next (s .args .delays .now) (s .args .below),
+            still-going (s .args .s) (s .args .n)
+                (s .args .delays .now) (s .args .below) (s .args .hi) (s .args .done) (omega arith) (omega arith) (s .pre .0 .6) (s .pre .0 .7),
+          );
       lasting = omega (arith, c .before .lesser .ensures, nth-next (s .args .delays .now) (s .args .below));
       before-next = λ h. absurd (omega arith);
     }

@@ -16,10 +16,17 @@ slice-aggregate-delays : tie.Need-slice-aggregate-delays
 slice-aggregate-delays c = search needs
 
 delays-requires : tie.Need-delays-requires
-delays-requires c κs = let s = c .before .before .before .before in
-    (s .pre .0 .shifts .some-nodes, s .pre .0 .shifts .few-nodes, c .before .exponents .ensures .size,
-    λ i lo h. omega (arith, nth-next (c .before .exponents .result) i, c .before .exponents .ensures .each (i + 1) (omega arith) (omega arith),
-    s .pre .0 .shifts .small (i + 1) 2 (omega arith) (omega arith) (omega arith) (omega arith)))
+delays-requires c κs = let s = c .before .before .before .before in (
+  s .pre .0 .shifts .some-nodes,
+  s .pre .0 .shifts .few-nodes,
+  c .before .exponents .ensures .size,
+  λ i lo h. omega (
+    arith,
+    nth-next (c .before .exponents .result) i,
+    c .before .exponents .ensures .each (i + 1) (omega arith) (omega arith),
+    s .pre .0 .shifts .small (i + 1) 2 (omega arith) (omega arith) (omega arith) (omega arith),
+  ),
+)
 
 slice-aggregate-solve-tiles : tie.Need-slice-aggregate-solve-tiles
 slice-aggregate-solve-tiles c = search needs
@@ -28,9 +35,14 @@ slice-aggregate-solve-tiles-2 : tie.Need-slice-aggregate-solve-tiles-2
 slice-aggregate-solve-tiles-2 c = search needs
 
 solve-tiles-requires : tie.Need-solve-tiles-requires
-solve-tiles-requires c κs = let s = c .before .before .before .before .before .before .before .before in
-    ((s .pre .0, tables-of (s .args .s) (s .args .n) (s .args .rows .now) _ _ (s .pre .0) (c .before .before .before .before .before .exponents .ensures)
-    (c .before .before .before .delays .ensures)), s .pre .1)
+solve-tiles-requires c κs = let s = c .before .before .before .before .before .before .before .before in (
+  (
+    s .pre .0,
+    tables-of (s .args .s) (s .args .n) (s .args .rows .now) _ _ (s .pre .0) (c .before .before .before .before .before .exponents .ensures)
+        (c .before .before .before .delays .ensures),
+  ),
+  s .pre .1,
+)
 
 count-requires : tie.Need-count-requires
 count-requires c κs = search needs
@@ -40,8 +52,12 @@ same-length c = search needs
 
 returns : tie.Need-returns
 returns c = let s = c .before .before .before .before .before .before .before .before .before .before .before .before in
-    record { same-length =
-        c .before .before .before .solve-tiles .ensures .same-length; parts = c .before .before .before .solve-tiles .ensures .parts; counted = c .count .ensures ∙ sym (additions-cost _ _ _ _) }
+    record {
+      same-length =
+          c .before .before .before .solve-tiles .ensures .same-length;
+      parts = c .before .before .before .solve-tiles .ensures .parts;
+      counted = c .count .ensures ∙ sym (additions-cost _ _ _ _);
+    }
 
 pub solve-spec : {M : Type 1} → statement M
 solve-spec =

@@ -36,8 +36,13 @@ shared-slice-read-rounds c = let s = c .before .before .before .before .before i
 
 add-rounds : tie.Need-add-rounds Inv-loop μ-loop
 add-rounds c = let s = c .before .before .before .before .before in
-    omega (arith, s .pre .0 .0 .few-letters, s .pre .0 .0 .shifts .some-nodes, waits-small (s .args .s) (s .args .rows .now) (s .args .exps .now)
-    (s .args .delays .now) (s .pre .0 .0 .shifts) (s .pre .0 .1) (s .args .s) (s .pre .0 .0 .shifts .some-nodes) (omega arith))
+    omega (
+      arith,
+      s .pre .0 .0 .few-letters,
+      s .pre .0 .0 .shifts .some-nodes,
+      waits-small (s .args .s) (s .args .rows .now) (s .args .exps .now)
+          (s .args .delays .now) (s .pre .0 .0 .shifts) (s .pre .0 .1) (s .args .s) (s .pre .0 .0 .shifts .some-nodes) (omega arith),
+    )
 
 loop-holds : tie.Need-loop-holds Inv-loop μ-loop
 loop-holds c = let s = c .before .before .before .before .before in (
@@ -55,21 +60,32 @@ begun-requires c κs = let s = c .before .before .before .before .before .before
 ended-requires : tie.Need-ended-requires Inv-loop μ-loop
 ended-requires c κs = let s = c .before .before .before .before .before .before .before .before in
     let l = c .before .before .loop in (
-      (omega (arith, c .begun .ensures .0 .within, s .pre .0 .0 .shifts .few-nodes), s .pre .0 .1 .tables .waits, s .pre .0 .0 .few-letters,
-      record { within = omega (arith, l .inv .2 .within); ended = l .inv .2 .ended; next = λ h. absurd (omega arith) }),
-      λ i h. omega (arith, nth-next (s .args .delays .now) i, waits-small (s .args .s) (s .args .rows .now) (s .args .exps .now) (s .args .delays .now)
-      (s .pre .0 .0 .shifts) (s .pre .0 .1) (i + 1) (omega arith) (omega (arith, c .begun .ensures .0 .within))),
+      (
+        omega (arith, c .begun .ensures .0 .within, s .pre .0 .0 .shifts .few-nodes),
+        s .pre .0 .1 .tables .waits,
+        s .pre .0 .0 .few-letters,
+        record { within = omega (arith, l .inv .2 .within); ended = l .inv .2 .ended; next = λ h. absurd (omega arith) },
+      ),
+      λ i h. omega (
+        arith,
+        nth-next (s .args .delays .now) i,
+        waits-small (s .args .s) (s .args .rows .now) (s .args .exps .now) (s .args .delays .now)
+            (s .pre .0 .0 .shifts) (s .pre .0 .1) (i + 1) (omega arith) (omega (arith, c .begun .ensures .0 .within)),
+      ),
     )
 
 cut-requires : tie.Need-cut-requires Inv-loop μ-loop
 cut-requires c κs = let s = c .before .before .before .before .before .before .before .before .before in
     let l = c .before .before .before .loop in
     let later = still-below (s .args .s) (s .args .n) (s .args .delays .now) _ _ (l .done) (s .pre .0 .0 .shifts .some-nodes) (c .ended .ensures)
-        (c .before .begun .ensures .0 .within) (omega arith) in
-    (
+    (c .before .begun .ensures .0 .within) (omega arith) in (
       (s .pre .0 .0 .shifts .few-nodes, s .pre .0 .1 .tables .waits, s .pre .0 .0 .few-letters, l .inv .4, later, c .ended .ensures .within, c .before .begun .ensures .0, c .ended .ensures),
-      λ i h. omega (arith, nth-next (s .args .delays .now) i, waits-small (s .args .s) (s .args .rows .now) (s .args .exps .now) (s .args .delays .now)
-      (s .pre .0 .0 .shifts) (s .pre .0 .1) (i + 1) (omega arith) (omega arith)),
+      λ i h. omega (
+        arith,
+        nth-next (s .args .delays .now) i,
+        waits-small (s .args .s) (s .args .rows .now) (s .args .exps .now) (s .args .delays .now)
+            (s .pre .0 .0 .shifts) (s .pre .0 .1) (i + 1) (omega arith) (omega arith),
+      ),
     )
 
 sub-solve-tile : tie.Need-sub-solve-tile Inv-loop μ-loop
@@ -83,11 +99,20 @@ solve-tile-requires c κs = let s = c .before .before .before .before .before .b
         l .inv .0 ∙ s .pre .1,
         (
           tile-here (s .args .s) (s .args .n) (s .args .rows .now) (s .args .exps .now) (s .args .delays .now) _ _ (l .done) _ (s .pre .0 .1)
-          (c .before .before .before .begun .ensures .0) (c .before .before .ended .ensures) (c .before .cut .ensures),
-          omega (arith, c .before .cut .ensures .onward, c .before .cut .ensures .lasting, s .pre .0 .0 .few-letters, waits-small (s .args .s)
-          (s .args .rows .now) (s .args .exps .now) (s .args .delays .now) (s .pre .0 .0 .shifts) (s .pre .0 .1) (c .before .before .ended .result + 1)
-          (omega arith) (omega (arith, still-below (s .args .s) (s .args .n) (s .args .delays .now) _ _ (l .done) (s .pre .0 .0 .shifts .some-nodes)
-          (c .before .before .ended .ensures) (c .before .before .before .begun .ensures .0 .within) (omega arith)))),
+              (c .before .before .before .begun .ensures .0) (c .before .before .ended .ensures) (c .before .cut .ensures),
+          omega (
+            arith,
+            c .before .cut .ensures .onward,
+            c .before .cut .ensures .lasting,
+            s .pre .0 .0 .few-letters,
+            waits-small (s .args .s)
+                (s .args .rows .now) (s .args .exps .now) (s .args .delays .now) (s .pre .0 .0 .shifts) (s .pre .0 .1) (c .before .before .ended .result + 1)
+                (omega arith) (omega (
+                  arith,
+                  still-below (s .args .s) (s .args .n) (s .args .delays .now) _ _ (l .done) (s .pre .0 .0 .shifts .some-nodes)
+                      (c .before .before .ended .ensures) (c .before .before .before .begun .ensures .0 .within) (omega arith),
+                )),
+          ),
         ),
       ),
     )
@@ -101,20 +126,40 @@ loop-again c = let s = c .before .before .before .before .before .before .before
     let onward = c .before .before .before .before .cut .ensures .onward in
     let there : l .done + (c .before .before .before .before .cut .result - l .done) ≡ c .before .before .before .before .cut .result = omega arith in (
       c .before .before .solve-tile .ensures .same-length ∙ l .inv .0,
-      record { within =
-          c .before .before .before .before .before .before .begun .ensures .0 .within; begun = λ h. omega (arith,
-          c .before .before .before .before .before .before .begun .ensures .0 .begun h); next = λ h. absurd (omega arith) },
-      record { within =
-          c .before .before .before .before .before .ended .ensures .within; ended = λ h. omega (arith,
-          c .before .before .before .before .before .ended .ensures .ended h); next = λ h. absurd (omega arith) },
+      record {
+        within =
+            c .before .before .before .before .before .before .begun .ensures .0 .within;
+        begun = λ h. omega (
+          arith,
+          c .before .before .before .before .before .before .begun .ensures .0 .begun h,
+        );
+        next = λ h. absurd (omega arith);
+      },
+      record {
+        within =
+            c .before .before .before .before .before .ended .ensures .within;
+        ended = λ h. omega (
+          arith,
+          c .before .before .before .before .before .ended .ensures .ended h,
+        );
+        next = λ h. absurd (omega arith);
+      },
       subst (λ r. Through xors (s .args .s) (s .args .n) (shiftIn (s .args .rows .now)) (sequence 0 (s .args .part .now) (s .args .n))
-      (sequence 0 (c .before .before .solve-tile .last .0) (s .args .n)) r) there (c .before .before .solve-tile .ensures .goes-on _ (l .inv .3)),
-      omega (arith, c .before .before .before .before .cut .ensures .onward, c .before .before .before .before .cut .ensures .lasting,
-      s .pre .0 .0 .few-letters, waits-small (s .args .s) (s .args .rows .now) (s .args .exps .now) (s .args .delays .now) (s .pre .0 .0 .shifts)
-      (s .pre .0 .1) (c .before .before .before .before .before .ended .result + 1) (omega arith)
-      (omega (arith, still-below (s .args .s) (s .args .n) (s .args .delays .now) _ _ (l .done) (s .pre .0 .0 .shifts .some-nodes)
-      (c .before .before .before .before .before .ended .ensures) (c .before .before .before .before .before .before .begun .ensures .0 .within)
-      (omega arith)))),
+          (sequence 0 (c .before .before .solve-tile .last .0) (s .args .n)) r) there (c .before .before .solve-tile .ensures .goes-on _ (l .inv .3)),
+      omega (
+        arith,
+        c .before .before .before .before .cut .ensures .onward,
+        c .before .before .before .before .cut .ensures .lasting,
+        s .pre .0 .0 .few-letters,
+        waits-small (s .args .s) (s .args .rows .now) (s .args .exps .now) (s .args .delays .now) (s .pre .0 .0 .shifts)
+            (s .pre .0 .1) (c .before .before .before .before .before .ended .result + 1) (omega arith)
+            (omega (
+              arith,
+              still-below (s .args .s) (s .args .n) (s .args .delays .now) _ _ (l .done) (s .pre .0 .0 .shifts .some-nodes)
+                  (c .before .before .before .before .before .ended .ensures) (c .before .before .before .before .before .before .begun .ensures .0 .within)
+                  (omega arith),
+            )),
+      ),
     )
 
 same-length : tie.Need-same-length Inv-loop μ-loop
@@ -123,9 +168,12 @@ same-length c = c .before .loop .inv .0
 returns : tie.Need-returns Inv-loop μ-loop
 returns c = let s = c .before .before .before .before .before .before .before in
     let l = c .before .loop in
-    record { same-length =
-        l .inv .0; parts = through-end xors (s .args .s) (s .args .n) (shiftIn (s .args .rows .now)) _ _ (l .done)
-        (omega (arith, s .pre .0 .1 .waits .each (s .args .s) (s .pre .0 .0 .shifts .some-nodes) (omega arith))) (l .inv .3) }
+    record {
+      same-length =
+          l .inv .0;
+      parts = through-end xors (s .args .s) (s .args .n) (shiftIn (s .args .rows .now)) _ _ (l .done)
+          (omega (arith, s .pre .0 .1 .waits .each (s .args .s) (s .pre .0 .0 .shifts .some-nodes) (omega arith))) (l .inv .3);
+    }
 
 pub solve-tiles-spec : {M : Type 1} → statement M
 solve-tiles-spec =

@@ -24,20 +24,25 @@ add-j : tie.Need-add-j Inv-loop μ-loop
 add-j c = search needs
 
 down-turn-requires : tie.Need-down-turn-requires Inv-loop μ-loop
-down-turn-requires c κs =
-    ((c .before .before .before .before .before .before .before .pre .0 .0, omega arith, omega arith), apart-later _ _ _ _ _ _ _ (omega arith)
-    (c .before .before .loop .inv .2 .only .same-length) (c .before .before .before .before .before .before .before .pre .1))
+down-turn-requires c κs = (
+  (c .before .before .before .before .before .before .before .pre .0 .0, omega arith, omega arith),
+  apart-later _ _ _ _ _ _ _ (omega arith)
+      (c .before .before .loop .inv .2 .only .same-length) (c .before .before .before .before .before .before .before .pre .1),
+)
 
 loop-less : tie.Need-loop-less Inv-loop μ-loop
 loop-less c = search needs
 
 loop-again : tie.Need-loop-again Inv-loop μ-loop
-loop-again c =
-    (omega arith, omega arith, way-down-more _ _ _ _ _ (c .before .before .before .before .before .before .before .before .before .before .pre .0 .0 .ordered)
-    _ _ _ _ _ (omega arith) (omega arith) (omega arith) (apart-later _ _ _ _ _ _ _ (omega arith)
-    (c .before .before .before .before .before .loop .inv .2 .only .same-length)
-    (c .before .before .before .before .before .before .before .before .before .before .pre .1)) (c .before .before .before .before .before .loop .inv .2)
-    (c .before .before .down-turn .ensures))
+loop-again c = (
+  omega arith,
+  omega arith,
+  way-down-more _ _ _ _ _ (c .before .before .before .before .before .before .before .before .before .before .pre .0 .0 .ordered)
+      _ _ _ _ _ (omega arith) (omega arith) (omega arith) (apart-later _ _ _ _ _ _ _ (omega arith)
+      (c .before .before .before .before .before .loop .inv .2 .only .same-length)
+      (c .before .before .before .before .before .before .before .before .before .before .pre .1)) (c .before .before .before .before .before .loop .inv .2)
+      (c .before .before .down-turn .ensures),
+)
 
 same-length : tie.Need-same-length Inv-loop μ-loop
 same-length c = search needs

@@ -43,8 +43,14 @@ lag-requires : tie.Need-lag-requires Inv-loop μ-loop
 lag-requires c κs = (tables-fewer _ _ _ _ (omega arith) (c .before .before .before .before .before .before .before .before .before .pre .0 .0), omega arith, omega arith)
 
 add-earlier-requires : tie.Need-add-earlier-requires Inv-loop μ-loop
-add-earlier-requires c κs =
-    (omega (arith, c .before .before .before .before .before .before .before .before .before .before .pre .1 .order (c .before .before .before .before .before .before .before .before .before .before .args .j) (c .before .before .before .before .before .loop .b + 1) (omega arith) (omega arith) (omega arith)), omega (arith, c .before .before .before .before .before .before .before .before .before .before .pre .1 .fits (c .before .before .before .before .before .loop .b + 1) (omega arith) (omega arith)))
+add-earlier-requires c κs = (
+  omega (
+    arith,
+    c .before .before .before .before .before .before .before .before .before .before .pre .1 .order
+        (c .before .before .before .before .before .before .before .before .before .before .args .j) (c .before .before .before .before .before .loop .b + 1) (omega arith) (omega arith) (omega arith),
+  ),
+  omega (arith, c .before .before .before .before .before .before .before .before .before .before .pre .1 .fits (c .before .before .before .before .before .loop .b + 1) (omega arith) (omega arith)),
+)
 
 sub-sum-up : tie.Need-sub-sum-up Inv-loop μ-loop
 sub-sum-up c = search needs
@@ -75,20 +81,44 @@ shared-slice-read-sum-up-3 c = search needs
 
 sub-sum-up-4 : tie.Need-sub-sum-up-4 Inv-loop μ-loop
 sub-sum-up-4 c =
-    omega (arith, exponents-apart _ (c .before .before .before .before .before .before .before .before .before .before .before .before .before .before .before .before .before .args .exps .now) (c .before .before .before .before .before .before .before .before .before .before .before .before .before .before .before .before .before .pre .0 .0 .ordered) (c .before .before .before .before .before .before .before .before .before .before .before .before .before .before .before .before .before .args .j) (c .before .before .before .before .before .before .before .before .before .before .before .before .loop .b + 1) (omega arith) (omega arith) (omega arith))
+    omega (
+      arith,
+      exponents-apart _
+          (c .before .before .before .before .before .before .before .before .before .before .before .before .before .before .before .before .before .args .exps .now)
+          (c .before .before .before .before .before .before .before .before .before .before .before .before .before .before .before .before .before .pre .0 .0 .ordered)
+          (c .before .before .before .before .before .before .before .before .before .before .before .before .before .before .before .before .before .args .j)
+          (c .before .before .before .before .before .before .before .before .before .before .before .before .loop .b + 1) (omega arith) (omega arith) (omega arith),
+    )
 
 sum-up-requires : tie.Need-sum-up-requires Inv-loop μ-loop
-sum-up-requires c κs =
-    (omega (arith, exponents-apart _ (c .before .before .before .before .before .before .before .before .before .before .before .before .before .before .before .before .before .args .exps .now) (c .before .before .before .before .before .before .before .before .before .before .before .before .before .before .before .before .before .pre .0 .0 .ordered) (c .before .before .before .before .before .before .before .before .before .before .before .before .before .before .before .before .before .args .j) (c .before .before .before .before .before .before .before .before .before .before .before .before .loop .b + 1) (omega arith) (omega arith) (omega arith)), omega (arith, c .before .before .before .before .before .before .before .before .before .before .before .before .before .before .before .before .before .pre .1 .fits (c .before .before .before .before .before .before .before .before .before .before .before .before .loop .b + 1) (omega arith) (omega arith)))
+sum-up-requires c κs = (
+  omega (
+    arith,
+    exponents-apart _
+        (c .before .before .before .before .before .before .before .before .before .before .before .before .before .before .before .before .before .args .exps .now)
+        (c .before .before .before .before .before .before .before .before .before .before .before .before .before .before .before .before .before .pre .0 .0 .ordered)
+        (c .before .before .before .before .before .before .before .before .before .before .before .before .before .before .before .before .before .args .j)
+        (c .before .before .before .before .before .before .before .before .before .before .before .before .loop .b + 1) (omega arith) (omega arith) (omega arith),
+  ),
+  omega (
+    arith,
+    c .before .before .before .before .before .before .before .before .before .before .before .before .before .before .before .before .before .pre .1 .fits
+        (c .before .before .before .before .before .before .before .before .before .before .before .before .loop .b + 1) (omega arith) (omega arith),
+  ),
+)
 
 loop-less : tie.Need-loop-less Inv-loop μ-loop
 loop-less c = search needs
 
 loop-again : tie.Need-loop-again Inv-loop μ-loop
-loop-again c =
-    (omega arith, omega arith, turn-down-more _ _ _ _ _ _ _ (omega arith) (omega arith) (omega arith) (omega arith) _ _ _ _
-    (c .before .before .before .before .before .before .before .before .before .before .before .before .before .before .before .loop .inv .2)
-    (rw (c .before .before .before .before .before .before .before .before .before .before .lag .ensures) at (c .before .before .before .before .before .before .before .before .before .add-earlier .ensures)) (c .before .before .sum-up .ensures))
+loop-again c = (
+  omega arith,
+  omega arith,
+  turn-down-more _ _ _ _ _ _ _ (omega arith) (omega arith) (omega arith) (omega arith) _ _ _ _
+      (c .before .before .before .before .before .before .before .before .before .before .before .before .before .before .before .loop .inv .2)
+      (rw (c .before .before .before .before .before .before .before .before .before .before .lag .ensures)
+      at (c .before .before .before .before .before .before .before .before .before .add-earlier .ensures)) (c .before .before .sum-up .ensures),
+)
 
 same-length : tie.Need-same-length Inv-loop μ-loop
 same-length c = search needs

@@ -41,8 +41,11 @@ sub-result-5 c = search needs
 
 mul-result-4 : tie.Need-mul-result-4
 mul-result-4 c =
-    omega (arith, lag-in-tables _ (c .before .before .before .args .a) _ _ (c .before .before .before .pre .0) (omega arith) (omega arith),
-    c .before .before .shared-slice-known .given (c .before .before .before .args .b - 1))
+    omega (
+      arith,
+      lag-in-tables _ (c .before .before .before .args .a) _ _ (c .before .before .before .pre .0) (omega arith) (omega arith),
+      c .before .before .shared-slice-known .given (c .before .before .before .args .b - 1),
+    )
 
 sub-result-6 : tie.Need-sub-result-6
 sub-result-6 c = omega (arith, lag-in-tables _ (c .before .before .before .args .a) _ _ (c .before .before .before .pre .0) (omega arith) (omega arith))

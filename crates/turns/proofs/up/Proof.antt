@@ -25,19 +25,23 @@ sub-j : tie.Need-sub-j Inv-loop μ-loop
 sub-j c = search needs
 
 up-turn-requires : tie.Need-up-turn-requires Inv-loop μ-loop
-up-turn-requires c κs =
-    ((c .before .before .before .before .before .before .pre .0 .0, c .before .before .before .before .before .before .pre .0 .1, omega arith, omega arith),
-    apart-later _ _ _ _ _ _ _ (omega arith) (c .before .before .loop .inv .2 .only .same-length) (c .before .before .before .before .before .before .pre .1))
+up-turn-requires c κs = (
+  (c .before .before .before .before .before .before .pre .0 .0, c .before .before .before .before .before .before .pre .0 .1, omega arith, omega arith),
+  apart-later _ _ _ _ _ _ _ (omega arith) (c .before .before .loop .inv .2 .only .same-length) (c .before .before .before .before .before .before .pre .1),
+)
 
 loop-less : tie.Need-loop-less Inv-loop μ-loop
 loop-less c = search needs
 
 loop-again : tie.Need-loop-again Inv-loop μ-loop
-loop-again c =
-    (omega arith, omega arith, way-up-more _ _ _ _ _ _ _ _ _ (omega arith)
-    (apart-later _ _ _ _ _ _ _ (omega arith) (c .before .before .before .before .before .loop .inv .2 .only .same-length)
-    (c .before .before .before .before .before .before .before .before .before .pre .1)) (c .before .before .before .before .before .loop .inv .2)
-    (c .before .before .up-turn .ensures))
+loop-again c = (
+  omega arith,
+  omega arith,
+  way-up-more _ _ _ _ _ _ _ _ _ (omega arith)
+      (apart-later _ _ _ _ _ _ _ (omega arith) (c .before .before .before .before .before .loop .inv .2 .only .same-length)
+      (c .before .before .before .before .before .before .before .before .before .pre .1)) (c .before .before .before .before .before .loop .inv .2)
+      (c .before .before .up-turn .ensures),
+)
 
 same-length : tie.Need-same-length Inv-loop μ-loop
 same-length c = search needs

@@ -59,26 +59,37 @@ shared-slice-read-add-later-4 c = search needs
 
 sub-add-later-5 : tie.Need-sub-add-later-5 Inv-loop μ-loop
 sub-add-later-5 c =
-    omega (arith, exponents-apart _ (c .before .before .before .before .before .before .before .before .before .before .args .exps .now)
-    (c .before .before .before .before .before .before .before .before .before .before .pre .0 .0)
-    (c .before .before .before .before .before .before .before .before .before .before .args .j)
-    (c .before .before .before .before .before .before .loop .b + 1) (omega arith) (omega arith) (omega arith))
+    omega (
+      arith,
+      exponents-apart _ (c .before .before .before .before .before .before .before .before .before .before .args .exps .now)
+          (c .before .before .before .before .before .before .before .before .before .before .pre .0 .0)
+          (c .before .before .before .before .before .before .before .before .before .before .args .j)
+          (c .before .before .before .before .before .before .loop .b + 1) (omega arith) (omega arith) (omega arith),
+    )
 
 add-later-requires : tie.Need-add-later-requires Inv-loop μ-loop
-add-later-requires c κs =
-    (omega (arith, nth-before (c .before .before .before .before .before .before .before .before .before .before .args .starts .now)
-    (c .before .before .before .before .before .before .loop .b),
-    c .before .before .before .before .before .before .before .before .before .before .pre .1 .order (c .before .before .before .before .before .before .loop .b) (c .before .before .before .before .before .before .loop .b + 1) (omega arith) (omega arith) (omega arith)), omega (arith, c .before .before .before .before .before .before .before .before .before .before .pre .1 .fits (c .before .before .before .before .before .before .loop .b + 1) (omega arith) (omega arith)))
+add-later-requires c κs = (
+  omega (
+    arith,
+    nth-before (c .before .before .before .before .before .before .before .before .before .before .args .starts .now)
+        (c .before .before .before .before .before .before .loop .b),
+    c .before .before .before .before .before .before .before .before .before .before .pre .1 .order (c .before .before .before .before .before .before .loop .b) (c .before .before .before .before .before .before .loop .b + 1) (omega arith) (omega arith) (omega arith),
+  ),
+  omega (arith, c .before .before .before .before .before .before .before .before .before .before .pre .1 .fits (c .before .before .before .before .before .before .loop .b + 1) (omega arith) (omega arith)),
+)
 
 loop-less : tie.Need-loop-less Inv-loop μ-loop
 loop-less c = search needs
 
 loop-again : tie.Need-loop-again Inv-loop μ-loop
-loop-again c =
-    (omega arith, omega arith, turn-up-more _ _ _ _ _ _ _ (omega arith) (omega arith) (omega arith) (omega arith) _ _ _
-    (c .before .before .before .before .before .before .before .before .before .loop .inv .2)
-    (rw (nth-before (c .before .before .before .before .before .before .before .before .before .before .before .before .before .args .starts .now)
-    (c .before .before .before .before .before .before .before .before .before .loop .b)) at (c .before .before .add-later .ensures)))
+loop-again c = (
+  omega arith,
+  omega arith,
+  turn-up-more _ _ _ _ _ _ _ (omega arith) (omega arith) (omega arith) (omega arith) _ _ _
+      (c .before .before .before .before .before .before .before .before .before .loop .inv .2)
+      (rw (nth-before (c .before .before .before .before .before .before .before .before .before .before .before .before .before .args .starts .now)
+      (c .before .before .before .before .before .before .before .before .before .loop .b)) at (c .before .before .add-later .ensures)),
+)
 
 same-length : tie.Need-same-length Inv-loop μ-loop
 same-length c = search needs

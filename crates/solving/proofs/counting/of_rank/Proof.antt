@@ -21,9 +21,16 @@ add-a : tie.Need-add-a Inv-loop μ-loop
 add-a c = omega arith
 
 of-pair-requires : tie.Need-of-pair-requires Inv-loop μ-loop
-of-pair-requires c κs = let s = c .before .before .before in
-    (s .pre .0 .sixteen-rows, omega arith, omega arith, omega arith, omega arith, s .pre .0 .small (s .args .b) _ (omega arith) (omega arith) (omega arith)
-    (omega arith), s .pre .0 .small (s .args .b) (s .args .b) (omega arith) (omega arith) (omega arith) (omega arith))
+of-pair-requires c κs = let s = c .before .before .before in (
+  s .pre .0 .sixteen-rows,
+  omega arith,
+  omega arith,
+  omega arith,
+  omega arith,
+  s .pre .0 .small (s .args .b) _ (omega arith) (omega arith) (omega arith)
+      (omega arith),
+  s .pre .0 .small (s .args .b) (s .args .b) (omega arith) (omega arith) (omega arith) (omega arith),
+)
 
 add-count : tie.Need-add-count Inv-loop μ-loop
 add-count c = omega arith
