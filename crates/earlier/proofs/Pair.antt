@@ -18,14 +18,14 @@ use Rattle.tiles.specs.Tile.{startOf, runOf}
 use Rattle.tiles.proofs.Even.{lag-is}
 use Rattle.tiles.proofs.Runs.{run-letter}
 use Rattle.tiles.proofs.Taking.{taken-piece}
-use Rattle.earlier.specs.Steps.{Reads, ReadsBefore, AddedFrom, Placed, HasBegun, TakesOne}
+use Rattle.earlier.specs.Steps.{Reads, ReadsBefore, AddedFrom, RunPlaced, HasBegun, TakesOne}
 use Rattle.earlier.proofs.Reading.{reads-same}
 
 -- a sequence lies in the buffer
 pub sequence-end : (s n a : ℕ) → 1 ≤ n → 1 ≤ a → a ≤ s → (a - 1) * n + n ≤ s * n
 sequence-end s n a some la ha = omega (arith, index-below s n a n la ha some (omega arith))
 
-module _ {s n : ℕ} {t : ℕ → ℕ → ℕ} {done count b a : ℕ} (some : 1 ≤ n) (placed : Placed s n t done count b) (begun : HasBegun s t done a) where
+module _ {s n : ℕ} {t : ℕ → ℕ → ℕ} {done count b a : ℕ} (some : 1 ≤ n) (placed : RunPlaced s n t done count b) (begun : HasBegun s t done a) where
   -- the run lies in its sequence
   run-fits : (done - delay t b) + count ≤ n
   run-fits = fits (delay t b) (placed .begun) (placed .not-over)

@@ -10,12 +10,12 @@ use Rattle.letters.proofs.Cases.{le-or-lt}
 use Rattle.letters.proofs.Sums.{sum-same}
 use Rattle.system.specs.System.{sequence}
 use Rattle.system.proofs.System.{sequences}
-use Rattle.tiles.specs.Tile.{Tile, runOf, readBefore, TakenTo, Within}
+use Rattle.tiles.specs.Tile.{Tile, runOf, readBefore, TakenTo, WithinTile}
 use Rattle.tiles.proofs.Runs.{before-same}
 use Rattle.tiles.proofs.Taking.{taken-start, taken-more, taken-out-start, taken-out-more}
 use Rattle.tiles.proofs.Tile.{within-then}
 use Rattle.tiles.proofs.Buffers.{changed-within, changed-only}
-use Rattle.earlier.specs.Steps.{Placed, HasBegun, OnlyRun, TakesOne, TakesAll}
+use Rattle.earlier.specs.Steps.{RunPlaced, HasBegun, OnlyRank, TakesOne, TakesAll}
 use Rattle.earlier.specs.Taken.{TakesOut}
 
 -- Before the first sequence nothing was taken out of a run,
@@ -37,7 +37,7 @@ takes-out-none s n t done count below hi xs =
 
 module _ {s n : ℕ} {t : ℕ → ℕ → ℕ} {done count below hi : ℕ} (tile : Tile s n t done count below hi) where
   -- the run of each rank of the tile lies inside its sequence
-  pub placed-in : (b : ℕ) → below < b → b ≤ hi → Placed s n t done count b
+  pub placed-in : (b : ℕ) → below < b → b ≤ hi → RunPlaced s n t done count b
   placed-in b lb hb =
       record {
         some-rank = omega arith;
@@ -56,7 +56,7 @@ module _ {s n : ℕ} {t : ℕ → ℕ → ℕ} {done count below hi : ℕ} (tile
       }
 
   module _ {b : ℕ} (lb : below < b) (hb : b ≤ hi) where
-    only-within : {xs ys : List ℕ} → OnlyRun n t done count b xs ys → Within s n t done count below hi (sequence 0 xs n) (sequence 0 ys n)
+    only-within : {xs ys : List ℕ} → OnlyRank n t done count b xs ys → WithinTile s n t done count below hi (sequence 0 xs n) (sequence 0 ys n)
     only-within {xs} {ys} only = changed-within 0 s n t done count below hi tile xs ys b lb hb (only .kept)
 
     -- of one sequence more

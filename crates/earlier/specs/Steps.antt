@@ -34,7 +34,7 @@ abbrev pub AddedFrom : List ℕ → List ℕ → ℕ → ℕ → ℕ → Type 0
 AddedFrom xs ys to from count = Laid xs ys to (to + count) (λ i. bitXor (getD xs i 0) (getD xs (from + (i - to)) 0))
 
 -- The run of rank b lies inside its sequence, which is one of s.
-pub record Placed (s n : ℕ) (t : ℕ → ℕ → ℕ) (done count b : ℕ) : Type 0 where
+pub record RunPlaced (s n : ℕ) (t : ℕ → ℕ → ℕ) (done count b : ℕ) : Type 0 where
   pub some-rank : 1 ≤ b
   pub few-ranks : b ≤ s
   pub begun : delay t b ≤ done
@@ -47,18 +47,18 @@ pub record HasBegun (s : ℕ) (t : ℕ → ℕ → ℕ) (done a : ℕ) : Type 0 
   pub begun : delay t a ≤ done
 
 -- Only letters of the run of rank b changed.
-pub record OnlyRun (n : ℕ) (t : ℕ → ℕ → ℕ) (done count b : ℕ) (xs ys : List ℕ) : Type 0 where
+pub record OnlyRank (n : ℕ) (t : ℕ → ℕ → ℕ) (done count b : ℕ) (xs ys : List ℕ) : Type 0 where
   pub same-length : length ys ≡ length xs
   pub kept : (i : ℕ) → (i < startOf t n done b) ⊎ (startOf t n done b + count ≤ i) → getD ys i 0 ≡ getD xs i 0
 
 -- What equation b reads of sequence a from before the tile was taken out of its run.
 pub record TakesOne (n : ℕ) (t : ℕ → ℕ → ℕ) (done count b a : ℕ) (xs ys : List ℕ) : Type 0 where
-  pub only : OnlyRun n t done count b xs ys
+  pub only : OnlyRank n t done count b xs ys
   pub added :
       (p : ℕ) → 1 ≤ p → p ≤ count
       → runOf 0 t done count (sequence 0 ys n) b p ≡ bitXor (runOf 0 t done count (sequence 0 xs n) b p) (readBefore 0 t done (sequence 0 xs n) b p a)
 
 -- And of the sequences 1..c.
 pub record TakesAll (n : ℕ) (t : ℕ → ℕ → ℕ) (done count b c : ℕ) (xs ys : List ℕ) : Type 0 where
-  pub only : OnlyRun n t done count b xs ys
+  pub only : OnlyRank n t done count b xs ys
   pub taken : TakenTo xors t done count (sequence 0 xs n) b c (runOf 0 t done count (sequence 0 ys n) b)

@@ -7,7 +7,7 @@ ghost use lib.ListN.{length};
 ghost use Rattle.equation.specs.Rows.{shiftIn, Solvable};
 ghost use Rattle.equation.specs.Delays.{Delays};
 ghost use Rattle.tiles.specs.Tile.{Tile};
-ghost use Rattle.earlier.specs.Steps.{AddedFrom, Placed, HasBegun, TakesOne, TakesAll};
+ghost use Rattle.earlier.specs.Steps.{AddedFrom, RunPlaced, HasBegun, TakesOne, TakesAll};
 ghost use Rattle.earlier.specs.Taken.{TakesOut};
 
 // Takes out of each run of a tile, of the ranks after `below` and up to `hi` and the rounds done + 1 .. done + count, what its equations read in rounds up to `done`.
@@ -77,7 +77,7 @@ fn of_one(
     requires system { ⌜ Solvable s n (now rows) ⌝ }
     requires delays { ⌜ Delays s (now rows) (now delays) ⌝ }
     requires letters { ⌜ length (now part) ≡ s * n ⌝ }
-    requires run { ⌜ Placed s n (shiftIn (now rows)) done count b ⌝ }
+    requires run { ⌜ RunPlaced s n (shiftIn (now rows)) done count b ⌝ }
     requires sequence { ⌜ HasBegun s (shiftIn (now rows)) done a ⌝ }
     ensures { λ _. ⌜ TakesOne n (shiftIn (now (rows .entry))) done count b a (now (part .entry)) (now (part .exit)) ⌝ }
 {

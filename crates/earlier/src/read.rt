@@ -2,7 +2,7 @@
 ghost use Prim.Native.Nat.{_+_, _^_, _≤_};
 ghost use Rattle.equation.specs.Rows.{shiftIn, Solvable};
 ghost use Rattle.equation.specs.Delays.{Delays};
-ghost use Rattle.earlier.specs.Steps.{Placed, HasBegun, Reads, ReadsBefore};
+ghost use Rattle.earlier.specs.Steps.{RunPlaced, HasBegun, Reads, ReadsBefore};
 
 // The letters of a sequence that a run reads: the first of them is read by the letter after `skip` of the run, and stands at place `place`.
 pub struct Span {
@@ -24,7 +24,7 @@ pub fn read_before(
 ) -> Span
     requires system { ⌜ Solvable s n (now rows) ⌝ }
     requires delays { ⌜ Delays s (now rows) (now delays) ⌝ }
-    requires run { ⌜ Placed s n (shiftIn (now rows)) done count b ⌝ }
+    requires run { ⌜ RunPlaced s n (shiftIn (now rows)) done count b ⌝ }
     requires sequence { ⌜ HasBegun s (shiftIn (now rows)) done a ⌝ }
     ensures { λ r. ⌜ ReadsBefore n (shiftIn (now (rows .entry))) done count b a (r .skip) (r .place) (r .count) ⌝ }
 {

@@ -3,7 +3,7 @@ use mathlib.Core.Path.{_≡_, refl, sym, _∙_}
 use Prim.Native.Nat.{ℕ, _+_, _-_, _%_, _≤_, _<_}
 use native.Mathlib.Nat.{add-zero, mod-le, mod-lt, mod-eq-of-lt, mod-eq-sub-mod, mod-mod-of-dvd, dvd-add, dvd-refl}
 use native.Mathlib.Omega.{arith}
-use Rattle.letters.specs.Steps.Rests.{blockSize, leftOver}
+use Rattle.letters.specs.Steps.Rests.{widestBlock, leftOver}
 
 -- what blocks leave over, they leave over of what those twice as wide leave over
 halved : (n width : ℕ) → n % width ≡ n % (width + width) % width
@@ -38,15 +38,15 @@ unfolding leftOver
 odd-letters n = refl
 
 -- what the widest blocks leave over, they leave over of itself
-pub rest-in : (n i : ℕ) → i ≡ leftOver n blockSize → i % blockSize ≡ n % blockSize
+pub rest-in : (n i : ℕ) → i ≡ leftOver n widestBlock → i % widestBlock ≡ n % widestBlock
 unfolding leftOver
 rest-in n i e = omega arith
 
 -- past what the widest blocks leave over, they leave nothing over
-pub rest-whole : (n i : ℕ) → i ≡ leftOver n blockSize → leftOver (n - i) blockSize ≡ 0
+pub rest-whole : (n i : ℕ) → i ≡ leftOver n widestBlock → leftOver (n - i) widestBlock ≡ 0
 unfolding leftOver
 rest-whole n i e = omega arith
 
-pub whole-blocks : (n : ℕ) → leftOver n blockSize ≡ 0 → n % blockSize ≡ 0
+pub whole-blocks : (n : ℕ) → leftOver n widestBlock ≡ 0 → n % widestBlock ≡ 0
 unfolding leftOver
 whole-blocks n e = e

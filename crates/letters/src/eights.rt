@@ -5,14 +5,14 @@ ghost use Prim.Native.Nat.{_+_, _≤_, _<_};
 ghost use lib.ListN.{length, take, drop};
 ghost use Rattle.letters.specs.Algebra.{xors};
 ghost use Rattle.letters.specs.Runs.{added};
-ghost use Rattle.letters.specs.Steps.Rests.{blockSize, leftOver};
+ghost use Rattle.letters.specs.Steps.Rests.{widestBlock, leftOver};
 
 // The letters of the widest block: sixteen eights, which half of the processor's wide registers hold.
 pub const WIDEST: usize = 128;
 
 // The `count` letters that start at index `start`, at the front of a block.
 pub fn taken(from: &[u8], start: usize, count: usize) -> [u8; WIDEST]
-    requires { ⌜ (count ≤ blockSize) × (start + count ≤ length (now from)) ⌝ }
+    requires { ⌜ (count ≤ widestBlock) × (start + count ≤ length (now from)) ⌝ }
     ensures { λ r. ⌜ take count r ≡ take count (drop start (now (from .entry))) ⌝ }
 {
     let mut block = [0u8; WIDEST];
@@ -38,7 +38,7 @@ pub fn add_letters(into: &mut [u8], at: usize, run: &[u8], start: usize, count: 
 
 // Adds the same letters, which are taken first. Where `count` is written as a number, no loop is left in what is compiled.
 pub fn add_block(into: &mut [u8], at: usize, run: &[u8], start: usize, count: usize)
-    requires { ⌜ (count ≤ blockSize) × (start + count ≤ length (now run)) × (at + count ≤ length (now into)) ⌝ }
+    requires { ⌜ (count ≤ widestBlock) × (start + count ≤ length (now run)) × (at + count ≤ length (now into)) ⌝ }
     ensures { λ _. ⌜ now (into .exit) ≡ added xors (now (into .entry)) at (take count (drop start (now (run .entry)))) ⌝ }
 {
     let block = taken(run, start, count);
@@ -48,7 +48,7 @@ pub fn add_block(into: &mut [u8], at: usize, run: &[u8], start: usize, count: us
 // The first `start` letters of the run are in, as many as blocks of `width` leave over of it. Adds the next block where it belongs if the run starts at index `at` of `into`,
 // unless blocks twice as wide leave no more over. The answer is how many letters were added.
 pub fn add_rest(into: &mut [u8], at: usize, run: &[u8], start: usize, width: usize) -> usize
-    requires width { ⌜ (0 < width) × (width ≤ blockSize) ⌝ }
+    requires width { ⌜ (0 < width) × (width ≤ widestBlock) ⌝ }
     requires lengths { ⌜ (start ≡ leftOver (length (now run)) width) × (at + length (now run) ≤ length (now into)) ⌝ }
     ensures letters { λ r. ⌜ now (into .exit) ≡ added xors (now (into .entry)) (at + start) (take r (drop start (now (run .entry)))) ⌝ }
     ensures count { λ r. ⌜ start + r ≡ leftOver (length (now (run .entry))) (width + width) ⌝ }
@@ -65,7 +65,7 @@ pub fn add_rest(into: &mut [u8], at: usize, run: &[u8], start: usize, width: usi
 pub fn add_rests(into: &mut [u8], at: usize, run: &[u8]) -> usize
     requires { ⌜ at + length (now run) ≤ length (now into) ⌝ }
     ensures letters { λ r. ⌜ now (into .exit) ≡ added xors (now (into .entry)) at (take r (now (run .entry))) ⌝ }
-    ensures count { λ r. ⌜ r ≡ leftOver (length (now (run .entry))) blockSize ⌝ }
+    ensures count { λ r. ⌜ r ≡ leftOver (length (now (run .entry))) widestBlock ⌝ }
 {
     let mut i = run.len() % 8;
     add_letters(into, at, run, 0, i);
@@ -78,7 +78,7 @@ pub fn add_rests(into: &mut [u8], at: usize, run: &[u8]) -> usize
 
 // Adds the rest of a run, whose first `start` letters are in: as many as the widest blocks leave over of it.
 pub fn add_blocks(into: &mut [u8], at: usize, run: &[u8], start: usize)
-    requires { ⌜ (start ≡ leftOver (length (now run)) blockSize) × (at + length (now run) ≤ length (now into)) ⌝ }
+    requires { ⌜ (start ≡ leftOver (length (now run)) widestBlock) × (at + length (now run) ≤ length (now into)) ⌝ }
     ensures { λ _. ⌜ now (into .exit) ≡ added xors (now (into .entry)) (at + start) (drop start (now (run .entry))) ⌝ }
 {
     let mut i = start;

@@ -6,7 +6,7 @@ ghost use Prim.Native.Nat.{_+_, _≤_, _<_};
 ghost use lib.ListN.{length, take, drop};
 ghost use Rattle.letters.specs.Algebra.{xors};
 ghost use Rattle.letters.specs.Runs.{added};
-ghost use Rattle.letters.specs.Steps.Rests.{blockSize, leftOver};
+ghost use Rattle.letters.specs.Steps.Rests.{widestBlock, leftOver};
 
 // Adds the `count` letters that start at index `from` into those that start at index `to`, one by one.
 pub fn add_letters(buffer: &mut [u8], to: usize, from: usize, count: usize)
@@ -22,7 +22,7 @@ pub fn add_letters(buffer: &mut [u8], to: usize, from: usize, count: usize)
 
 // Adds the same letters, which are taken first: so they may lie anywhere, and overlap those that they are added to.
 pub fn add_block(buffer: &mut [u8], to: usize, from: usize, count: usize)
-    requires { ⌜ (count ≤ blockSize) × (to + count ≤ length (now buffer)) × (from + count ≤ length (now buffer)) ⌝ }
+    requires { ⌜ (count ≤ widestBlock) × (to + count ≤ length (now buffer)) × (from + count ≤ length (now buffer)) ⌝ }
     ensures { λ _. ⌜ now (buffer .exit) ≡ added xors (now (buffer .entry)) to (take count (drop from (now (buffer .entry)))) ⌝ }
 {
     let block = eights::taken(buffer, from, count);
@@ -39,7 +39,7 @@ pub fn add_rest(
     start: usize,
     width: usize,
 ) -> usize
-    requires width { ⌜ (0 < width) × (width ≤ blockSize) ⌝ }
+    requires width { ⌜ (0 < width) × (width ≤ widestBlock) ⌝ }
     requires lengths { ⌜ (start ≡ leftOver count width) × (to + count ≤ from) × (from + count ≤ length (now buffer)) ⌝ }
     ensures letters { λ r. ⌜ now (buffer .exit) ≡ added xors (now (buffer .entry)) (to + start) (take r (drop (from + start) (now (buffer .entry)))) ⌝ }
     ensures count { λ r. ⌜ start + r ≡ leftOver count (width + width) ⌝ }
@@ -55,7 +55,7 @@ pub fn add_rest(
 pub fn add_rests(buffer: &mut [u8], to: usize, from: usize, count: usize) -> usize
     requires { ⌜ (to + count ≤ from) × (from + count ≤ length (now buffer)) ⌝ }
     ensures letters { λ r. ⌜ now (buffer .exit) ≡ added xors (now (buffer .entry)) to (take r (drop from (now (buffer .entry)))) ⌝ }
-    ensures count { λ r. ⌜ r ≡ leftOver count blockSize ⌝ }
+    ensures count { λ r. ⌜ r ≡ leftOver count widestBlock ⌝ }
 {
     let mut i = count % 8;
     add_letters(buffer, to, from, i);
@@ -68,7 +68,7 @@ pub fn add_rests(buffer: &mut [u8], to: usize, from: usize, count: usize) -> usi
 
 // Adds a run of which the widest blocks leave nothing over.
 pub fn add_blocks(buffer: &mut [u8], to: usize, from: usize, count: usize)
-    requires { ⌜ (leftOver count blockSize ≡ 0) × (to + count ≤ from) × (from + count ≤ length (now buffer)) ⌝ }
+    requires { ⌜ (leftOver count widestBlock ≡ 0) × (to + count ≤ from) × (from + count ≤ length (now buffer)) ⌝ }
     ensures { λ _. ⌜ now (buffer .exit) ≡ added xors (now (buffer .entry)) to (take count (drop from (now (buffer .entry)))) ⌝ }
 {
     let mut i = 0;

@@ -13,7 +13,7 @@ use Rattle.letters.specs.Algebra.{xors}
 use Rattle.letters.specs.Runs.{added}
 use Rattle.letters.specs.Laid.{Laid}
 use Rattle.runs.specs.Running.{plusFrom}
-use Rattle.letters.specs.Steps.Rests.{blockSize, leftOver}
+use Rattle.letters.specs.Steps.Rests.{widestBlock, leftOver}
 use Rattle.letters.proofs.Cases.{le-or-lt}
 use Rattle.letters.proofs.Runs.{length-added, added-before, added-from, added-after}
 use Rattle.letters.proofs.Rests.{no-block, one-block, block-fits}
@@ -110,10 +110,10 @@ none-then n width some e h =
     less m r all over = omega arith
 
 -- the widest blocks, one less
-pub whole-there : (n : ℕ) → leftOver n blockSize ≡ 0 → 0 < n → blockSize ≤ n
+pub whole-there : (n : ℕ) → leftOver n widestBlock ≡ 0 → 0 < n → widestBlock ≤ n
 unfolding leftOver
 whole-there n e h = omega arith
 
-pub whole-less : (n : ℕ) → leftOver n blockSize ≡ 0 → leftOver (n - blockSize) blockSize ≡ 0
+pub whole-less : (n : ℕ) → leftOver n widestBlock ≡ 0 → leftOver (n - widestBlock) widestBlock ≡ 0
 unfolding leftOver
 whole-less n e = omega arith

@@ -7,12 +7,12 @@ ghost use Prim.Native.Nat.{_+_, _≤_, _<_};
 ghost use lib.ListN.{length};
 ghost use Rattle.letters.specs.Laid.{Laid};
 ghost use Rattle.runs.specs.Running.{plusFrom};
-ghost use Rattle.letters.specs.Steps.Rests.{blockSize, leftOver};
+ghost use Rattle.letters.specs.Steps.Rests.{widestBlock, leftOver};
 
 // Of a run, the first `left` letters are left to add, and blocks of `width` leave nothing over of them. Adds the last block, unless blocks twice as wide leave
 // nothing over either. The answer is how many letters are left then.
 pub fn add_rest(buffer: &mut [u8], to: usize, from: usize, left: usize, width: usize) -> usize
-    requires width { ⌜ (0 < width) × (width ≤ blockSize) ⌝ }
+    requires width { ⌜ (0 < width) × (width ≤ widestBlock) ⌝ }
     requires lengths { ⌜ (leftOver left width ≡ 0) × (from ≤ to) × (to + left ≤ length (now buffer)) ⌝ }
     ensures letters { λ r. ⌜ Laid (now (buffer .entry)) (now (buffer .exit)) (to + r) (to + left) (plusFrom (now (buffer .entry)) to from) ⌝ }
     ensures left { λ r. ⌜ (r ≤ left) × (leftOver r (width + width) ≡ 0) ⌝ }
@@ -40,7 +40,7 @@ pub fn add_odd(buffer: &mut [u8], to: usize, from: usize, count: usize) -> usize
 pub fn add_rests(buffer: &mut [u8], to: usize, from: usize, count: usize) -> usize
     requires { ⌜ (from ≤ to) × (to + count ≤ length (now buffer)) ⌝ }
     ensures letters { λ r. ⌜ Laid (now (buffer .entry)) (now (buffer .exit)) (to + r) (to + count) (plusFrom (now (buffer .entry)) to from) ⌝ }
-    ensures left { λ r. ⌜ (r ≤ count) × (leftOver r blockSize ≡ 0) ⌝ }
+    ensures left { λ r. ⌜ (r ≤ count) × (leftOver r widestBlock ≡ 0) ⌝ }
 {
     let mut i = add_odd(buffer, to, from, count);
     i = add_rest(buffer, to, from, i, 8);
@@ -51,7 +51,7 @@ pub fn add_rests(buffer: &mut [u8], to: usize, from: usize, count: usize) -> usi
 
 // Adds a run of which the widest blocks leave nothing over, the last block first.
 pub fn add_blocks(buffer: &mut [u8], to: usize, from: usize, count: usize)
-    requires { ⌜ (leftOver count blockSize ≡ 0) × (from ≤ to) × (to + count ≤ length (now buffer)) ⌝ }
+    requires { ⌜ (leftOver count widestBlock ≡ 0) × (from ≤ to) × (to + count ≤ length (now buffer)) ⌝ }
     ensures { λ _. ⌜ Laid (now (buffer .entry)) (now (buffer .exit)) to (to + count) (plusFrom (now (buffer .entry)) to from) ⌝ }
 {
     let mut i = count;

@@ -16,7 +16,7 @@ use Rattle.equation.proofs.Delays.{delay-small}
 use Rattle.earlier.specs.Taken.{TakesOut}
 use Rattle.tiles.specs.Even.{lag}
 use Rattle.tiles.specs.Stages.{Solves}
-use Rattle.tiles.specs.Tile.{Tile, runOf, startOf, Within}
+use Rattle.tiles.specs.Tile.{Tile, runOf, startOf, WithinTile}
 use Rattle.tiles.proofs.Spans.{span-same}
 use Rattle.tiles.proofs.Runs.{run-letter}
 use Rattle.tiles.proofs.Buffers.{outside}
@@ -84,7 +84,7 @@ module _ (s n : ℕ) (rows exps delays starts : List ℕ) (tables : TablesOf s r
       (same-lag s rows exps delays tables b a (omega arith) (omega (arith, tile .few)) (omega arith) (omega (arith, tile .few)))
       ∙ sym (run-here after a (p - lag (shiftIn rows) b a) la ha))
 
-  within-here : (mid after : List ℕ) → OnlyRuns starts below hi m mid after → Within s n (shiftIn rows) done m below hi (sequence 0 mid n) (sequence 0 after n)
+  within-here : (mid after : List ℕ) → OnlyRuns starts below hi m mid after → WithinTile s n (shiftIn rows) done m below hi (sequence 0 mid n) (sequence 0 after n)
   within-here mid after only a q la ha lq hq out =
       sequence-inside 0 after n a q lq hq
       ∙ only .kept (indexOf n a q)

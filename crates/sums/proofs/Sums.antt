@@ -10,7 +10,7 @@ use lib.Seq.{getD-take, getD-drop}
 use Rattle.letters.specs.Algebra.{xors, sum}
 use Rattle.letters.specs.Runs.{added}
 use Rattle.letters.specs.Laid.{Laid}
-use Rattle.letters.specs.Steps.Rests.{blockSize}
+use Rattle.letters.specs.Steps.Rests.{widestBlock}
 use Rattle.letters.proofs.Sums.{none-plus, sum-more, sum-same}
 use Rattle.letters.proofs.Runs.{length-added, added-from}
 use Rattle.letters.proofs.Laying.{laid-as, laid-on}
@@ -56,21 +56,21 @@ module _ (from starts : List ℕ) where
       ∙ none-plus xors (getD from (getD starts 0 0 + q) 0)
 
   -- letter q of the block of a run
-  run-letter : (at q start : ℕ) → q < blockSize → getD (take blockSize (drop (start + at) from)) q 0 ≡ getD from (start + (at + q)) 0
+  run-letter : (at q start : ℕ) → q < widestBlock → getD (take widestBlock (drop (start + at) from)) q 0 ≡ getD from (start + (at + q)) 0
   run-letter at q start h =
-      getD-take blockSize (drop (start + at) from) q 0 h ∙ getD-drop (start + at) from q 0 ∙ ap (λ i. getD from i 0) (further start at q)
+      getD-take widestBlock (drop (start + at) from) q 0 h ∙ getD-drop (start + at) from q 0 ∙ ap (λ i. getD from i 0) (further start at q)
     where
       further : (start at q : ℕ) → start + at + q ≡ start + (at + q)
       further start at q = omega arith
 
   -- the first run's letters, taken
-  pub block-first : (at : ℕ) (block : List ℕ) → blockSize ≡ length block → take blockSize block ≡ take blockSize (drop (getD starts 0 0 + at) from) → BlockOf from starts 1 at block
+  pub block-first : (at : ℕ) (block : List ℕ) → widestBlock ≡ length block → take widestBlock block ≡ take widestBlock (drop (getD starts 0 0 + at) from) → BlockOf from starts 1 at block
   block-first at block long e =
       record {
         long = sym long;
         letters =
             λ q h.
-            sym (getD-take blockSize block q 0 h)
+            sym (getD-take widestBlock block q 0 h)
             ∙ ap (λ l. getD l q 0) e
             ∙ run-letter at q (getD starts 0 0) h
             ∙ sym (sum-at-one (at + q));
@@ -79,21 +79,21 @@ module _ (from starts : List ℕ) where
   -- the letters of one run more, added
   pub block-more :
       (n at : ℕ) (block after : List ℕ) → BlockOf from starts n at block
-      → after ≡ added xors block 0 (take blockSize (drop (getD starts n 0 + at) from)) → BlockOf from starts (n + 1) at after
+      → after ≡ added xors block 0 (take widestBlock (drop (getD starts n 0 + at) from)) → BlockOf from starts (n + 1) at after
   block-more n at block after b e =
       record {
-        long = ap length e ∙ length-added xors block 0 (take blockSize (drop (getD starts n 0 + at) from)) ∙ b .long;
+        long = ap length e ∙ length-added xors block 0 (take widestBlock (drop (getD starts n 0 + at) from)) ∙ b .long;
         letters =
             λ q h.
             ap (λ l. getD l q 0) e
-            ∙ added-from xors block 0 (take blockSize (drop (getD starts n 0 + at) from)) q (omega arith) (omega (arith, b .long))
-            ∙ ap₂ bitXor (b .letters q h) (ap (λ i. getD (take blockSize (drop (getD starts n 0 + at) from)) i 0) (sub-zero q) ∙ run-letter at q (getD starts n 0) h)
+            ∙ added-from xors block 0 (take widestBlock (drop (getD starts n 0 + at) from)) q (omega arith) (omega (arith, b .long))
+            ∙ ap₂ bitXor (b .letters q h) (ap (λ i. getD (take widestBlock (drop (getD starts n 0 + at) from)) i 0) (sub-zero q) ∙ run-letter at q (getD starts n 0) h)
             ∙ sym (sum-at-more n (at + q));
       }
 
   -- what is laid of a block is the sum
   pub block-laid :
-      (n at : ℕ) (block xs ys : List ℕ) (a b : ℕ) (letter : ℕ → ℕ) → BlockOf from starts n at block → b ≤ a + blockSize
+      (n at : ℕ) (block xs ys : List ℕ) (a b : ℕ) (letter : ℕ → ℕ) → BlockOf from starts n at block → b ≤ a + widestBlock
       → Laid xs ys a b (λ p. getD block (0 + (p - a)) 0) → ((p : ℕ) → a ≤ p → p < b → sumAt from starts n (at + (p - a)) ≡ letter p)
       → Laid xs ys a b letter
   block-laid n at block xs ys a b letter w few laid same =
@@ -126,7 +126,7 @@ sum-within xs ys starts n to a at p f later w h =
 
 -- what blocks leave over is laid first, as the beginning of a block, and then the rest
 pub laid-all :
-    (from starts : List ℕ) (n first : ℕ) (block xs ys zs : List ℕ) (long : ℕ) → BlockOf from starts n 0 block → first ≤ blockSize → first ≤ long
+    (from starts : List ℕ) (n first : ℕ) (block xs ys zs : List ℕ) (long : ℕ) → BlockOf from starts n 0 block → first ≤ widestBlock → first ≤ long
     → Laid xs ys 0 first (λ p. getD block (0 + (p - 0)) 0) → Laid ys zs first long (sumAt from starts n) → Laid xs zs 0 long (sumAt from starts n)
 laid-all from starts n first block xs ys zs long w few h front rest =
     laid-on xs ys zs 0 first long (sumAt from starts n) (omega arith) h
@@ -135,7 +135,7 @@ laid-all from starts n first block xs ys zs long w few h front rest =
 
 -- the same within one buffer
 pub laid-within :
-    (starts : List ℕ) (n first to : ℕ) (block xs ys zs : List ℕ) (count : ℕ) → NoneBefore starts n to → BlockOf xs starts n 0 block → first ≤ blockSize → first ≤ count
+    (starts : List ℕ) (n first to : ℕ) (block xs ys zs : List ℕ) (count : ℕ) → NoneBefore starts n to → BlockOf xs starts n 0 block → first ≤ widestBlock → first ≤ count
     → Laid xs ys to (to + first) (λ p. getD block (0 + (p - to)) 0) → Laid ys zs (to + first) (to + count) (λ p. sumAt ys starts n (p - to))
     → Laid xs zs to (to + count) (λ p. sumAt xs starts n (p - to))
 laid-within starts n first to block xs ys zs count later w few h front rest =

@@ -4,7 +4,7 @@ use mathlib.Core.List.{List}
 use Prim.Native.Nat.{ℕ, _+_, _-_, _≤_, _<_}
 use lib.ListN.{length, getD}
 use Rattle.letters.specs.Algebra.{xors, sum}
-use Rattle.letters.specs.Steps.Rests.{blockSize}
+use Rattle.letters.specs.Steps.Rests.{widestBlock}
 
 -- the index at which run u starts, counted from 1
 abbrev pub runStart : List ℕ → ℕ → ℕ
@@ -27,5 +27,5 @@ pub record NoneBefore (starts : List ℕ) (n to : ℕ) : Type 0 where
 
 -- a block of the sum, from the letters on that stand `at` behind the starts
 pub record BlockOf (from starts : List ℕ) (n at : ℕ) (block : List ℕ) : Type 0 where
-  pub long : length block ≡ blockSize
-  pub letters : (q : ℕ) → q < blockSize → getD block q 0 ≡ sumAt from starts n (at + q)
+  pub long : length block ≡ widestBlock
+  pub letters : (q : ℕ) → q < widestBlock → getD block q 0 ≡ sumAt from starts n (at + q)

@@ -3,12 +3,12 @@ use letters::eights;
 ghost use mathlib.Core.Path.{_≡_};
 ghost use Prim.Native.Nat.{_+_};
 ghost use lib.ListN.{length};
-ghost use Rattle.letters.specs.Steps.Rests.{blockSize};
+ghost use Rattle.letters.specs.Steps.Rests.{widestBlock};
 ghost use Rattle.sums.specs.Sums.{sumAt, RunsInside, BlockOf};
 
 // The block of the sum that starts `at` letters behind the runs' starts: the first run's letters are taken, and those of the others added.
 pub fn block(from: &[u8], starts: &[usize], sources: usize, at: usize) -> [u8; eights::WIDEST]
-    requires { ⌜ RunsInside (now starts) sources (at + blockSize) (length (now from)) ⌝ }
+    requires { ⌜ RunsInside (now starts) sources (at + widestBlock) (length (now from)) ⌝ }
     ensures { λ r. ⌜ BlockOf (now (from .entry)) (now (starts .entry)) sources at r ⌝ }
 {
     let mut block = eights::taken(from, starts[0] + at, eights::WIDEST);

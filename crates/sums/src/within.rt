@@ -5,7 +5,7 @@ ghost use mathlib.Core.Path.{_≡_};
 ghost use Prim.Native.Nat.{_+_, _-_, _≤_};
 ghost use lib.ListN.{length};
 ghost use Rattle.letters.specs.Laid.{Laid};
-ghost use Rattle.letters.specs.Steps.Rests.{blockSize, leftOver};
+ghost use Rattle.letters.specs.Steps.Rests.{widestBlock, leftOver};
 ghost use Rattle.sums.specs.Sums.{sumAt, RunsInside, NoneBefore};
 
 // The letters from `start` behind `to` on, in blocks; `start` is what blocks leave over of `count`.
@@ -18,7 +18,7 @@ pub fn lay_blocks(
     start: usize,
 )
     requires runs { ⌜ (RunsInside (now starts) sources count (length (now buffer))) × (NoneBefore (now starts) sources to) ⌝ }
-    requires start { ⌜ start ≡ leftOver count blockSize ⌝ }
+    requires start { ⌜ start ≡ leftOver count widestBlock ⌝ }
     ensures { λ _. ⌜ Laid (now (buffer .entry)) (now (buffer .exit)) (to + start) (to + count) (λ p. sumAt (now (buffer .entry)) (now (starts .entry)) sources (p - to)) ⌝ }
 {
     let mut at = start;

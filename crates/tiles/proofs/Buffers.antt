@@ -11,7 +11,7 @@ use Rattle.system.specs.System.{sequence}
 use Rattle.system.specs.Order.{delay}
 use Rattle.system.proofs.System.{indexOf, index-below, sequence-inside}
 use Rattle.tiles.specs.Turns.{Only}
-use Rattle.tiles.specs.Tile.{runOf, startOf, Tile, Within}
+use Rattle.tiles.specs.Tile.{runOf, startOf, Tile, WithinTile}
 use Rattle.tiles.proofs.Runs.{run-inside}
 
 -- The run of rank b of a tile, in a buffer of sequences.
@@ -67,7 +67,7 @@ module _ {A : Type 0} (none : A) (s n : ℕ) (t : ℕ → ℕ → ℕ) (done m b
       ∙ same (indexOf n a q) (outside s n t done m below hi tile b lb hb a q la lq hq apart)
       ∙ sym (sequence-inside none xs n a q lq hq)
 
-  pub changed-within : Within s n t done m below hi (sequence none xs n) (sequence none ys n)
+  pub changed-within : WithinTile s n t done m below hi (sequence none xs n) (sequence none ys n)
   changed-within a q la ha lq hq out = kept-outside a q la lq hq (λ e after upto. out (omega arith) (omega arith) after upto)
 
   pub changed-only : Only below hi m b (runOf none t done m (sequence none xs n)) (runOf none t done m (sequence none ys n))

@@ -13,7 +13,7 @@ use Rattle.system.specs.System.{sequence, Sequences}
 use Rattle.system.specs.Order.{delay}
 use Rattle.system.proofs.System.{sequence-inside}
 use Rattle.tiles.specs.Even.{lag}
-use Rattle.tiles.specs.Tile.{runOf, startOf, readBefore, Within}
+use Rattle.tiles.specs.Tile.{runOf, startOf, readBefore, WithinTile}
 
 module _ {A : Type 0} (none : A) (t : ℕ → ℕ → ℕ) (done m : ℕ) (x : ℕ → ℕ → A) (b p : ℕ) where
   pub run-inside : 1 ≤ p → p ≤ m → runOf none t done m x b p ≡ x b ((done - delay t b) + p)
@@ -84,7 +84,7 @@ agree-at none n x x′ xs xs′ a q inner =
 -- what changes in a tile alone is the same before it
 pub before-same :
     {A : Type 0} (none : A) (s n : ℕ) (t : ℕ → ℕ → ℕ) (done m below hi : ℕ) (x x′ : ℕ → ℕ → A) → Sequences none n x → Sequences none n x′
-    → Within s n t done m below hi x x′ → (b p a : ℕ) → 1 ≤ a → a ≤ s → readBefore none t done x′ b p a ≡ readBefore none t done x b p a
+    → WithinTile s n t done m below hi x x′ → (b p a : ℕ) → 1 ≤ a → a ≤ s → readBefore none t done x′ b p a ≡ readBefore none t done x b p a
 before-same none s n t done m below hi x x′ xs xs′ within b p a la ha =
     ⊎-elim
     (λ h.

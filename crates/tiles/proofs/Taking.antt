@@ -11,7 +11,7 @@ use Rattle.system.specs.System.{Sequences}
 use Rattle.system.specs.Order.{delay}
 use Rattle.tiles.specs.Even.{lag}
 use Rattle.tiles.specs.Turns.{Same, Only}
-use Rattle.tiles.specs.Tile.{runOf, readBefore, Within, TakenTo, TakenOut}
+use Rattle.tiles.specs.Tile.{runOf, readBefore, WithinTile, TakenTo, TakenOut}
 use Rattle.tiles.proofs.Runs.{before-early, before-late, before-outside, before-same}
 
 module _ {A : Type 0} (𝓐 : Adding A) (t : ℕ → ℕ → ℕ) (done m : ℕ) where
@@ -64,7 +64,7 @@ module _ {A : Type 0} (𝓐 : Adding A) (t : ℕ → ℕ → ℕ) (done m : ℕ)
 
     -- of one sequence more, read from the sequences y as they are now
     pub taken-more :
-        (s n below hi : ℕ) (y : ℕ → ℕ → A) → Sequences (𝓐 .none) n x → Sequences (𝓐 .none) n y → Within s n t done m below hi x y
+        (s n below hi : ℕ) (y : ℕ → ℕ → A) → Sequences (𝓐 .none) n x → Sequences (𝓐 .none) n y → WithinTile s n t done m below hi x y
         → (c d : ℕ) → d ≡ c + 1 → d ≤ s → (r r′ : ℕ → A) → TakenTo 𝓐 t done m x b c r
         → ((p : ℕ) → 1 ≤ p → p ≤ m → r′ p ≡ 𝓐 .plus (r p) (readBefore (𝓐 .none) t done y b p d)) → TakenTo 𝓐 t done m x b d r′
     taken-more s n below hi y xs ys within c d next few r r′ taken added p lp hp =

@@ -12,7 +12,7 @@ use Rattle.system.proofs.Order.{delay-rises}
 use Rattle.system.proofs.System.{part-same}
 use Rattle.tiles.specs.Even.{lag}
 use Rattle.tiles.specs.Stages.{span, Solves}
-use Rattle.tiles.specs.Tile.{Through, Tile, Within, TakenOut, runOf, readBefore}
+use Rattle.tiles.specs.Tile.{Through, Tile, WithinTile, TakenOut, runOf, readBefore}
 use Rattle.tiles.proofs.Even.{place-by-lag}
 use Rattle.tiles.proofs.Runs.{run-inside, run-zero, before-early, before-late, agree-at}
 use Rattle.tiles.proofs.Spans.{span-same, span-plus, span-none, span-rest}
@@ -23,7 +23,7 @@ in-tile d p done h = omega arith
 
 module _ {A : Type 0} (𝓛 : Letters A) (s n : ℕ) (t : ℕ → ℕ → ℕ) (ordered : Ordered s t) (done m below hi : ℕ) (tile : Tile s n t done m below hi)
     (x x′ : ℕ → ℕ → A) (xs : Sequences (𝓛 .adding .none) n x) (xs′ : Sequences (𝓛 .adding .none) n x′)
-    (within : Within s n t done m below hi x x′) where
+    (within : WithinTile s n t done m below hi x x′) where
   -- a letter that comes out before the tile is as it was, and so is each of which there is none
   kept-early : (a q : ℕ) → 1 ≤ a → a ≤ s → (1 ≤ q → delay t a + q ≤ done) → x′ a q ≡ x a q
   kept-early a q la ha early =
@@ -205,6 +205,6 @@ tile-by-ends s n t done m below hi ranks few over begun not-over to-come =
 
 -- one change in a tile after another
 pub within-then :
-    {A : Type 0} (s n : ℕ) (t : ℕ → ℕ → ℕ) (done m below hi : ℕ) (x y z : ℕ → ℕ → A) → Within s n t done m below hi x y
-    → Within s n t done m below hi y z → Within s n t done m below hi x z
+    {A : Type 0} (s n : ℕ) (t : ℕ → ℕ → ℕ) (done m below hi : ℕ) (x y z : ℕ → ℕ → A) → WithinTile s n t done m below hi x y
+    → WithinTile s n t done m below hi y z → WithinTile s n t done m below hi x z
 within-then s n t done m below hi x y z first second a q la ha lq hq out = second a q la ha lq hq out ∙ first a q la ha lq hq out

@@ -39,8 +39,8 @@ unfolding lag
 readBefore none t done x b p a = cond (leb p (lag t b a)) (x a (((done + p) - lag t b a) - delay t a)) none
 
 -- Only letters of a tile changed.
-abbrev pub Within : {A : Type 0} → ℕ → ℕ → (ℕ → ℕ → ℕ) → ℕ → ℕ → ℕ → ℕ → (ℕ → ℕ → A) → (ℕ → ℕ → A) → Type 0
-Within s n t done m below hi x x′ =
+abbrev pub WithinTile : {A : Type 0} → ℕ → ℕ → (ℕ → ℕ → ℕ) → ℕ → ℕ → ℕ → ℕ → (ℕ → ℕ → A) → (ℕ → ℕ → A) → Type 0
+WithinTile s n t done m below hi x x′ =
     (a q : ℕ) → 1 ≤ a → a ≤ s → 1 ≤ q → q ≤ n → (below < a → a ≤ hi → done < delay t a + q → delay t a + q ≤ done + m → ⊥)
     → x′ a q ≡ x a q
 

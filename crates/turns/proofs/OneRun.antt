@@ -11,7 +11,7 @@ use Rattle.letters.specs.Places.{letter}
 use Rattle.letters.proofs.Cases.{le-or-lt}
 use Rattle.letters.proofs.Places.{letter-inside, letter-zero}
 use Rattle.runs.specs.Running.{RunningSum, plusFrom}
-use Rattle.turns.specs.Runs.{RunAdded, RunSummed}
+use Rattle.turns.specs.Steps.Runs.{RunAdded, RunSummed}
 
 -- a run that is moved by all of its letters or more adds nothing
 pub added-nothing : (to from m d : ℕ) (xs : List ℕ) → m ≤ d → RunAdded to from m d xs xs

@@ -13,9 +13,9 @@ use Rattle.tiles.specs.Stages.{Solves, Down}
 use Rattle.tiles.proofs.Even.{even-lags}
 use Rattle.tiles.proofs.Stages.{down-start, down-turn, up-turn, up-end}
 use Rattle.tiles.proofs.Steps.{lowered-start, lowered-more, raised-start, raised-more}
-use Rattle.turns.specs.Runs.{RunAdded, RunSummed}
+use Rattle.turns.specs.Steps.Runs.{RunAdded, RunSummed}
 use Rattle.turns.specs.Tables.{nth, evenShift, RunsApart, runsIn}
-use Rattle.turns.specs.Turns.{TurnDown, TurnUp, WayDown, WayUp}
+use Rattle.turns.specs.Steps.Turns.{TurnDown, TurnUp, WayDown, WayUp}
 use Rattle.turns.proofs.Tables.{exponents-even}
 use Rattle.turns.proofs.Runs.{runs-nothing, only-start, only-more, only-run, only-rank}
 

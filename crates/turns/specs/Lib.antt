@@ -1,4 +1,3 @@
 -- A tile solved by itself.
 pub mod Tables
-pub mod Turns
-pub mod Runs
+pub mod Steps

@@ -9,7 +9,7 @@ ghost use Rattle.system.specs.Order.{Ordered};
 ghost use Rattle.tiles.specs.Even.{lag};
 ghost use Rattle.tiles.specs.Stages.{Solves};
 ghost use Rattle.turns.specs.Tables.{evenShift, Tables, RunsApart, runsIn, OnlyRuns};
-ghost use Rattle.turns.specs.Turns.{TurnDown, TurnUp, WayDown, WayUp};
+ghost use Rattle.turns.specs.Steps.Turns.{TurnDown, TurnUp, WayDown, WayUp};
 
 // Solves the tile whose runs, of the ranks after `below` and up to `hi` and of `count` letters each, start at the indices in `starts`: they become those whose
 // sums, each moved right by its lag, they were.

@@ -6,15 +6,15 @@ use Prim.Native.Nat.{ℕ, _+_, _≤_}
 use native.Mathlib.Omega.{arith}
 use lib.Dec.{ltb}
 use borrow.Author.Tests.{ltb-false}
-use Rattle.letters.specs.Steps.Rests.{blockSize}
+use Rattle.letters.specs.Steps.Rests.{widestBlock}
 use Rattle.columns.proofs.Pulling.{entry-pulled}
 use borrow.Author.Needs.{needs}
 use Rattle.columns.proofs.pull_entry.Statement.{statement}
 use Rattle.columns.proofs.pull_entry.Tie as tie
 
 -- what the first test says where it fails
-reached : (l wide : ℕ) (test : Bool) → test ≡ ltb l (wide + blockSize) → test ≡ false → wide ≤ l
-reached l wide test is failed = omega (arith, ltb-false l (wide + blockSize) (sym is ∙ failed))
+reached : (l wide : ℕ) (test : Bool) → test ≡ ltb l (wide + widestBlock) → test ≡ false → wide ≤ l
+reached l wide test is failed = omega (arith, ltb-false l (wide + widestBlock) (sym is ∙ failed))
 
 moved-by-requires : tie.Need-moved-by-requires
 moved-by-requires c κs = search needs

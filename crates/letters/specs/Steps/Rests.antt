@@ -2,8 +2,8 @@
 use Prim.Native.Nat.{ℕ, _%_}
 
 -- the letters of the widest block: sixteen eights
-abbrev pub blockSize : ℕ
-blockSize = 128
+abbrev pub widestBlock : ℕ
+widestBlock = 128
 
 -- how many of n letters are left over when they go in blocks of so many
 unfoldable pub leftOver : ℕ → ℕ → ℕ

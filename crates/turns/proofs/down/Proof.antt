@@ -2,7 +2,7 @@
 use Prim.Native.Nat.{_≤_, _-_}
 use native.Mathlib.Omega.{arith}
 use borrow.Author.Needs.{needs}
-use Rattle.turns.specs.Turns.{WayDown}
+use Rattle.turns.specs.Steps.Turns.{WayDown}
 use Rattle.turns.proofs.Runs.{apart-later}
 use Rattle.turns.proofs.Turns.{way-down-start, way-down-more, way-down-end}
 use Rattle.turns.proofs.down.Statement.{statement}

@@ -3,7 +3,7 @@ use mathlib.Core.Path.{_≡_}
 use Prim.Native.Nat.{_≤_, _+_, _-_}
 use native.Mathlib.Omega.{arith}
 use borrow.Author.Needs.{needs}
-use Rattle.turns.specs.Turns.{TurnDown}
+use Rattle.turns.specs.Steps.Turns.{TurnDown}
 use Rattle.turns.proofs.Tables.{exponents-apart, tables-fewer}
 use Rattle.turns.proofs.Turns.{turn-down-start, turn-down-more}
 use Rattle.turns.proofs.down_turn.Statement.{statement}

@@ -3,7 +3,7 @@ use mathlib.Core.Path.{_≡_}
 use Prim.Native.Nat.{_≤_, _-_}
 use native.Mathlib.Omega.{arith}
 use borrow.Author.Needs.{needs}
-use Rattle.turns.specs.Turns.{WayUp}
+use Rattle.turns.specs.Steps.Turns.{WayUp}
 use Rattle.turns.proofs.Runs.{apart-later}
 use Rattle.turns.proofs.Turns.{way-up-start, way-up-more}
 use Rattle.turns.proofs.up.Statement.{statement}

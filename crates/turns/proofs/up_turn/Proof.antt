@@ -3,7 +3,7 @@ use mathlib.Core.Path.{_≡_}
 use Prim.Native.Nat.{_≤_, _+_, _-_}
 use native.Mathlib.Omega.{arith}
 use borrow.Author.Needs.{needs}
-use Rattle.turns.specs.Turns.{TurnUp}
+use Rattle.turns.specs.Steps.Turns.{TurnUp}
 use Rattle.turns.proofs.Tables.{nth-before, exponents-apart}
 use Rattle.turns.proofs.Turns.{turn-up-start, turn-up-more}
 use Rattle.turns.proofs.up_turn.Statement.{statement}

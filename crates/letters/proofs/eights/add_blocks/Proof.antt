@@ -8,7 +8,7 @@ use lib.Seq.{take-all}
 use borrow.Author.Needs.{needs}
 use Rattle.letters.specs.Algebra.{xors}
 use Rattle.letters.specs.Runs.{added}
-use Rattle.letters.specs.Steps.Rests.{blockSize}
+use Rattle.letters.specs.Steps.Rests.{widestBlock}
 use Rattle.letters.proofs.Runs.{added-none, added-past}
 use Rattle.letters.proofs.Rests.{in-run, rest-in}
 use Rattle.letters.proofs.eights.add_blocks.Statement.{statement}
@@ -18,7 +18,7 @@ abbrev Inv-loop : tie.InvT-loop
 Inv-loop into₀ at run start i₀ into i =
     (start ≤ i)
     × (i ≤ length run)
-    × (i % blockSize ≡ length run % blockSize)
+    × (i % widestBlock ≡ length run % widestBlock)
     × (length into ≡ length into₀)
     × (into ≡ added xors into₀ (at + start) (take (i - start) (drop start run)))
 
@@ -50,7 +50,7 @@ loop-again c =
       omega arith,
       omega arith,
       search needs,
-      added-past xors (a .into .now) _ _ (a .at) (a .run .now) (a .start) (l .i) blockSize (l .inv .0) (l .inv .1) (l .inv .4) (c .before .before .add-block .ensures),
+      added-past xors (a .into .now) _ _ (a .at) (a .run .now) (a .start) (l .i) widestBlock (l .inv .0) (l .inv .1) (l .inv .4) (c .before .before .add-block .ensures),
     )
 
 same-length : tie.Need-same-length Inv-loop μ-loop

@@ -5,12 +5,12 @@ use native.Mathlib.Numerals.{add-one}
 use native.Mathlib.Omega.{arith}
 use lib.ListN.{length, take, drop, length-set, length-drop}
 use lib.Seq.{getD-drop, take-suc, take-suc-set}
-use Rattle.letters.specs.Steps.Rests.{blockSize}
+use Rattle.letters.specs.Steps.Rests.{widestBlock}
 use Rattle.letters.proofs.eights.taken.Statement.{statement}
 use Rattle.letters.proofs.eights.taken.Tie as tie
 
 abbrev Inv-loop : tie.InvT-loop
-Inv-loop from start count block₀ j₀ block j = (j ≤ count) × (length block ≡ blockSize) × (take j block ≡ take j (drop start from))
+Inv-loop from start count block₀ j₀ block j = (j ≤ count) × (length block ≡ widestBlock) × (take j block ≡ take j (drop start from))
 
 abbrev μ-loop : tie.MeasureT-loop
 μ-loop from start count block₀ j₀ block j = count - j

@@ -5,7 +5,7 @@ use native.Mathlib.Omega.{arith}
 use lib.ListN.{length}
 use borrow.Author.Needs.{needs}
 use Rattle.letters.specs.Algebra.{xors}
-use Rattle.letters.specs.Steps.Rests.{blockSize}
+use Rattle.letters.specs.Steps.Rests.{widestBlock}
 use Rattle.letters.proofs.Runs.{added-none}
 use Rattle.letters.proofs.Apart.{after, then, whole}
 use Rattle.letters.proofs.Rests.{whole-blocks}
@@ -15,7 +15,7 @@ use Rattle.letters.proofs.within.add_blocks.Tie as tie
 abbrev Inv-loop : tie.InvT-loop
 Inv-loop buffer₀ to from count i₀ buffer i =
     (i ≤ count)
-    × (i % blockSize ≡ count % blockSize)
+    × (i % widestBlock ≡ count % widestBlock)
     × (length buffer ≡ length buffer₀)
     × (buffer ≡ after buffer₀ to from count i)
 
@@ -48,7 +48,7 @@ loop-again c =
       omega arith,
       omega arith,
       search needs,
-      then (a .buffer .now) (a .to) (a .from) (a .count) (s .pre .1) (s .pre .2) _ _ (l .i) blockSize (omega arith) (l .inv .3) (c .before .before .add-block .ensures),
+      then (a .buffer .now) (a .to) (a .from) (a .count) (s .pre .1) (s .pre .2) _ _ (l .i) widestBlock (omega arith) (l .inv .3) (c .before .before .add-block .ensures),
     )
 
 same-length : tie.Need-same-length Inv-loop μ-loop

@@ -5,7 +5,7 @@ use native.Mathlib.Omega.{arith}
 use lib.ListN.{length}
 use Rattle.letters.specs.Laid.{Laid}
 use Rattle.runs.specs.Running.{plusFrom}
-use Rattle.letters.specs.Steps.Rests.{blockSize, leftOver}
+use Rattle.letters.specs.Steps.Rests.{widestBlock, leftOver}
 use Rattle.letters.proofs.Laying.{nothing-laid}
 use Rattle.runs.proofs.Downward.{block-down, laid-down, laid-from, whole-there, whole-less}
 use borrow.Author.Needs.{needs}
@@ -15,7 +15,7 @@ use Rattle.runs.proofs.after.add_blocks.Tie as tie
 abbrev Inv-loop : tie.InvT-loop
 Inv-loop buffer₀ to from count i₀ buffer i =
     (i ≤ count)
-    × (leftOver i blockSize ≡ 0)
+    × (leftOver i widestBlock ≡ 0)
     × (length buffer ≡ length buffer₀)
     × Laid buffer₀ buffer (to + i) (to + count) (plusFrom buffer₀ to from)
 
@@ -51,11 +51,11 @@ loop-again c =
     let s = c .before .before .before .before .before .before .before in
     let a = s .args in
     let there = whole-there (l .i) (l .inv .1) (omega arith) in
-    let block = block-down _ _ (a .to) (a .from) (l .i - blockSize) blockSize (l .i) (s .pre .1) (omega (arith, there)) (omega arith) (c .before .before .add-block .ensures) in (
+    let block = block-down _ _ (a .to) (a .from) (l .i - widestBlock) widestBlock (l .i) (s .pre .1) (omega (arith, there)) (omega arith) (c .before .before .add-block .ensures) in (
       omega arith,
       whole-less (l .i) (l .inv .1),
       search needs,
-      laid-down (a .buffer .now) _ _ (a .to) (a .from) (l .i - blockSize) (l .i) (a .count) (s .pre .1) (omega arith) (l .inv .0) (l .inv .3) block,
+      laid-down (a .buffer .now) _ _ (a .to) (a .from) (l .i - widestBlock) (l .i) (a .count) (s .pre .1) (omega arith) (l .inv .0) (l .inv .3) block,
     )
 
 same-length : tie.Need-same-length Inv-loop μ-loop

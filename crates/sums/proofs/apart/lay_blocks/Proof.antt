@@ -4,7 +4,7 @@ use mathlib.Core.Path.{_≡_, sym, ap}
 use Prim.Native.Nat.{_-_, _%_, _≤_}
 use lib.ListN.{length}
 use Rattle.letters.specs.Laid.{Laid}
-use Rattle.letters.specs.Steps.Rests.{blockSize}
+use Rattle.letters.specs.Steps.Rests.{widestBlock}
 use Rattle.letters.proofs.Laying.{nothing-laid, laid-on, laid-until}
 use Rattle.letters.proofs.Rests.{in-run, rest-in}
 use Rattle.sums.specs.Sums.{sumAt}
@@ -13,7 +13,7 @@ use Rattle.sums.proofs.apart.lay_blocks.Statement.{statement}
 use Rattle.sums.proofs.apart.lay_blocks.Tie as tie
 
 abbrev Inv-loop : tie.InvT-loop
-Inv-loop into₀ from starts sources start at₀ into at = (start ≤ at) × (at ≤ length into₀) × (at % blockSize ≡ length into₀ % blockSize) × Laid into₀ into start at (sumAt from starts sources)
+Inv-loop into₀ from starts sources start at₀ into at = (start ≤ at) × (at ≤ length into₀) × (at % widestBlock ≡ length into₀ % widestBlock) × Laid into₀ into start at (sumAt from starts sources)
 
 abbrev μ-loop : tie.MeasureT-loop
 μ-loop into₀ from starts sources start at₀ into at = length into₀ - at

@@ -3,7 +3,7 @@ use native.Mathlib.Omega.{arith}
 use mathlib.Core.Path.{_≡_, sym}
 use Prim.Native.Nat.{_+_, _-_, _%_, _≤_}
 use Rattle.letters.specs.Laid.{Laid}
-use Rattle.letters.specs.Steps.Rests.{blockSize}
+use Rattle.letters.specs.Steps.Rests.{widestBlock}
 use Rattle.letters.proofs.Laying.{nothing-laid, laid-on, laid-until}
 use Rattle.letters.proofs.Rests.{in-run, rest-in}
 use Rattle.sums.specs.Sums.{sumAt}
@@ -12,7 +12,7 @@ use Rattle.sums.proofs.within.lay_blocks.Statement.{statement}
 use Rattle.sums.proofs.within.lay_blocks.Tie as tie
 
 abbrev Inv-loop : tie.InvT-loop
-Inv-loop buffer₀ to starts sources count start at₀ buffer at = (start ≤ at) × (at ≤ count) × (at % blockSize ≡ count % blockSize) × Laid buffer₀ buffer (to + start) (to + at) (λ p. sumAt buffer₀ starts sources (p - to))
+Inv-loop buffer₀ to starts sources count start at₀ buffer at = (start ≤ at) × (at ≤ count) × (at % widestBlock ≡ count % widestBlock) × Laid buffer₀ buffer (to + start) (to + at) (λ p. sumAt buffer₀ starts sources (p - to))
 
 abbrev μ-loop : tie.MeasureT-loop
 μ-loop buffer₀ to starts sources count start at₀ buffer at = count - at
