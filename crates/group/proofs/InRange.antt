@@ -43,11 +43,15 @@ unfolding groupRefusal numbersInRange lengthInRange
 range-in g r =
     simp (le-leb 3 (g .n) (r .n-low), le-leb (g .n) 16 (r .n-high), le-leb 2 (g .k) (r .k-low), le-leb (g .k) (g .d) (r .k-high), le-leb (g .d) (g .n - 1) (omega arith), le-leb 1 (g .l) (r .l-low), le-leb (g .l) longest (r .l-high))
 
+pub id-known : (g : Group) (i : ℕ) → idRefusal g i ≡ 0 → (1 ≤ i) × (i ≤ g .n)
+unfolding idRefusal
+id-known g i e = between-true 1 (g .n) i (unless-none (between 1 (g .n) i) 3 (λ q. omega arith) e)
+
 pub node-of : (g : Group) (i : ℕ) → nodeRefusal g i ≡ 0 → NodeOf g i
-unfolding nodeRefusal idRefusal
+unfolding nodeRefusal
 node-of g i e =
     let w = first-none (groupRefusal g) (idRefusal g i) e in
-    let h = between-true 1 (g .n) i (unless-none (between 1 (g .n) i) 3 (λ q. omega arith) (w .1)) in
+    let h = id-known g i (w .1) in
     record { group = in-range g (w .0); low = h .0; high = h .1 }
 
 pub of-node : (g : Group) (i : ℕ) → NodeOf g i → nodeRefusal g i ≡ 0

@@ -1,10 +1,10 @@
--- The rule of document 01 (docs/SCHEME.md, 2) has refined increasing differences: a step of one column is worth i - 1 places at node i.
+-- The rules of documents 01 and 02 (docs/SCHEME.md, 2 and 17) have refined increasing differences: a step of one column is worth i - 1 places at node i under the one, and i under the other.
 use mathlib.Core.Path.{_≡_, sym, subst}
 use mathlib.Core.Logic.{⊎-elim}
 use Prim.Native.Nat.{ℕ, _+_, _-_, _*_, _≤_, _<_}
 use native.Mathlib.Nat.{mul-le-mul, mul-le-mul-left, mul-pos, mul-add, add-mul, eq-or-lt-of-le}
 use native.Mathlib.Omega.{arith}
-use Rattle.shifts.specs.Rule.{ShiftRule, t, Refined}
+use Rattle.shifts.specs.Rule.{ShiftRule, t, previewShift, Refined}
 
 -- from the two inequalities: where two columns have one shift, the node is 1, since any node above 1 grows past node 1's
 pub only-at-one :
@@ -13,10 +13,6 @@ pub only-at-one :
 only-at-one t growing rising i j j′ lo lj h e =
     ⊎-elim (λ one. sym one) (λ above. absurd (omega (arith, growing 1 i j j′ (omega arith) above lj h, rising 1 j j′ (omega arith) lj h)))
     (eq-or-lt-of-le lo)
-
-rises : (i j j′ : ℕ) → 1 ≤ i → 1 ≤ j → j < j′ → t i j ≤ t i j′
-unfolding t
-rises i j j′ li lj h = mul-le-mul-left (i - 1) (omega arith)
 
 -- (a + e)(x + f) + ax is above a(x + f) + (a + e)x by ef
 crossed-by : (a e x f : ℕ) → 0 < e → 0 < f → a * (x + f) + (a + e) * x < (a + e) * (x + f) + a * x
@@ -32,14 +28,31 @@ crossed a b x y ha hx =
     back : (a b : ℕ) → a < b → a + (b - a) ≡ b
     back a b h = omega arith
 
-grows : (i i′ j j′ : ℕ) → 1 ≤ i → i < i′ → 1 ≤ j → j < j′ → t i j′ + t i′ j < t i′ j′ + t i j
-unfolding t
-grows i i′ j j′ li h lj h′ = crossed (i - 1) (i′ - 1) (j - 1) (j′ - 1) (omega arith) (omega arith)
+-- a rule by which a step of one column is worth w i places at node i, where w rises from node to node, has refined increasing differences
+module _ (w : ℕ → ℕ) (more : (i i′ : ℕ) → 1 ≤ i → i < i′ → w i < w i′) where
+  rises : (i j j′ : ℕ) → 1 ≤ i → 1 ≤ j → j < j′ → w i * (j - 1) ≤ w i * (j′ - 1)
+  rises i j j′ li lj h = mul-le-mul-left (w i) (omega arith)
+
+  grows : (i i′ j j′ : ℕ) → 1 ≤ i → i < i′ → 1 ≤ j → j < j′ → w i * (j′ - 1) + w i′ * (j - 1) < w i′ * (j′ - 1) + w i * (j - 1)
+  grows i i′ j j′ li h lj h′ = crossed (w i) (w i′) (j - 1) (j′ - 1) (more i i′ li h) (omega arith)
+
+  refined-steps : Refined (λ i j. w i * (j - 1))
+  refined-steps = record { rising = rises; growing = grows; equal-only-at-one = only-at-one (λ i j. w i * (j - 1)) grows rises }
 
 pub refined : Refined t
-refined = record { rising = rises; growing = grows; equal-only-at-one = only-at-one t grows rises }
+unfolding t
+refined = refined-steps (λ i. i - 1) (λ i i′ li h. omega arith)
+
+pub preview-refined : Refined previewShift
+unfolding previewShift
+preview-refined = refined-steps (λ i. i) (λ i i′ li h. h)
 
 -- no shift of the table is above 225
 pub at-most : (i j : ℕ) → i ≤ 16 → j ≤ 16 → t i j ≤ 225
 unfolding t
 at-most i j hi hj = mul-le-mul {n₂ = 15} {m₂ = 15} (omega arith) (omega arith)
+
+-- and none of a preview is above 240
+pub preview-at-most : (i j : ℕ) → i ≤ 16 → j ≤ 16 → previewShift i j ≤ 240
+unfolding previewShift
+preview-at-most i j hi hj = mul-le-mul {n₂ = 16} {m₂ = 15} hi (omega arith)

@@ -10,6 +10,10 @@ ShiftRule = ℕ → ℕ → ℕ
 unfoldable pub t : ShiftRule
 t i j = (i - 1) * (j - 1)
 
+-- The rule of previews, document 02's Ask 4 (docs/SCHEME.md, 17): t(i,j) = i(j-1).
+unfoldable pub previewShift : ShiftRule
+previewShift i j = i * (j - 1)
+
 -- Refined increasing differences, (4) of paper [000] (docs/SCHEME.md, 15): for i < i' and j < j',
 --     0 <= t(i,j') - t(i,j) < t(i',j') - t(i',j),
 -- where the first is an equality only at node 1. The differences are written as sums, since these are natural numbers.

@@ -3,7 +3,7 @@ mod table;
 
 ghost use mathlib.Core.Path.{_≡_};
 ghost use Prim.Native.Nat.{_≤_};
-ghost use Rattle.shifts.specs.Rule.{t};
+ghost use Rattle.shifts.specs.Rule.{t, previewShift};
 ghost use Rattle.shifts.specs.Table.{Table};
 
 // The table of every shift. A constant is laid out anew wherever it is read, so who needs many shifts takes the table once.
@@ -28,4 +28,12 @@ pub fn shift(node: usize, column: usize) -> usize
     ensures { λ r. ⌜ r ≡ t node column ⌝ }
 {
     (node - 1) * (column - 1)
+}
+
+// The shift of `node` at `column` under the previews' rule, by the rule: node 16's is outside the table.
+pub fn preview_shift(node: usize, column: usize) -> usize
+    requires { ⌜ (1 ≤ node) × (node ≤ 16) × (1 ≤ column) × (column ≤ 16) ⌝ }
+    ensures { λ r. ⌜ r ≡ previewShift node column ⌝ }
+{
+    node * (column - 1)
 }

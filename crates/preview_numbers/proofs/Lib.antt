@@ -1,0 +1,3 @@
+-- What the checks of previews tell, and how long each is at most.
+pub mod InRange
+pub mod Sizes
