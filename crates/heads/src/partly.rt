@@ -118,10 +118,10 @@ pub fn head_after(head: Head, at: usize, bytes: &[u8]) -> Head
 {
     let size = kinds::head_size(head.kind);
     let mut first = [0u8; MOST_BYTES];
-    let mut offset = 0;
-    while offset < size {
-        first[offset] = byte_after(head, at, bytes, offset);
-        offset += 1;
+    let mut next = 0;
+    while next < size {
+        first[next] = byte_after(head, at, bytes, next);
+        next += 1;
     }
     head_bytes::head_in(&first)
 }

@@ -26,11 +26,11 @@ whole h at first bytes offset some le all e =
     same-numbers first (take at (headRecord h) ++ bytes) (λ p hi. e p (omega (arith, ap headSize kind)))
 
 abbrev Inv-loop : tie.InvT-loop
-Inv-loop head at bytes size first₀ offset₀ first offset =
-    (offset ≤ size) × (length first ≡ 13) × ((p : ℕ) → p < offset → getD first p 0 ≡ getD (take at (headRecord head) ++ bytes) p 0) × (size ≡ headSize (head .kind))
+Inv-loop head at bytes size first₀ next₀ first next =
+    (next ≤ size) × (length first ≡ 13) × ((p : ℕ) → p < next → getD first p 0 ≡ getD (take at (headRecord head) ++ bytes) p 0) × (size ≡ headSize (head .kind))
 
 abbrev μ-loop : tie.MeasureT-loop
-μ-loop head at bytes size first₀ offset₀ first offset = size - offset
+μ-loop head at bytes size first₀ next₀ first next = size - next
 
 head-size-requires : tie.Need-head-size-requires Inv-loop μ-loop
 head-size-requires c κs = search needs
@@ -44,8 +44,8 @@ byte-after-requires c κs = search needs
 array-write-first : tie.Need-array-write-first Inv-loop μ-loop
 array-write-first c = let l = c .before .before in omega (arith, l .loop .inv .3, size-small (l .before .before .before .args .head .kind))
 
-add-offset : tie.Need-add-offset Inv-loop μ-loop
-add-offset c = omega arith
+add-next : tie.Need-add-next Inv-loop μ-loop
+add-next c = omega arith
 
 loop-less : tie.Need-loop-less Inv-loop μ-loop
 loop-less c = omega arith
@@ -56,8 +56,8 @@ loop-again c =
       omega arith,
       simp length-set (l .loop .inv .1),
       below-more _ _
-          (λ p h. getD-set-other (l .loop .first) (l .loop .offset) p _ 0 (λ same. omega arith) ∙ l .loop .inv .2 p h)
-          (getD-set-same (l .loop .first) (l .loop .offset) _ 0 (omega (arith, size-small (l .before .before .before .args .head .kind))) ∙ c .byte-after .ensures),
+          (λ p h. getD-set-other (l .loop .first) (l .loop .next) p _ 0 (λ same. omega arith) ∙ l .loop .inv .2 p h)
+          (getD-set-same (l .loop .first) (l .loop .next) _ 0 (omega (arith, size-small (l .before .before .before .args .head .kind))) ∙ c .byte-after .ensures),
       l .loop .inv .3,
     )
 
@@ -71,7 +71,7 @@ returns : tie.Need-returns Inv-loop μ-loop
 returns c =
     let l = c .before .before .before in
     let s = l .before .before .before in
-    c .head-in .ensures ∙ whole (s .args .head) (s .args .at) (l .loop .first) _ (l .loop .offset) (s .pre .1) (s .pre .2) (omega (arith, l .loop .inv .3)) (l .loop .inv .2)
+    c .head-in .ensures ∙ whole (s .args .head) (s .args .at) (l .loop .first) _ (l .loop .next) (s .pre .1) (s .pre .2) (omega (arith, l .loop .inv .3)) (l .loop .inv .2)
 
 pub head-after-spec : {M : Type 1} → statement M
 head-after-spec =
@@ -83,7 +83,7 @@ head-after-spec =
     loop-holds
     byte-after-requires
     array-write-first
-    add-offset
+    add-next
     loop-less
     loop-again
     slice-aggregate-head-in
