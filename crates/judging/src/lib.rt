@@ -4,7 +4,7 @@ pub mod search;
 
 use group::Refusal;
 use heads::Head;
-use heads::kind1;
+use heads::bytes as head_bytes;
 use records::sizes;
 ghost use mathlib.Core.Path.{_≡_};
 ghost use Prim.Native.Nat.{_≤_, _<_};
@@ -27,10 +27,11 @@ pub enum Judgment {
 pub fn judge(share: &[u8]) -> Judgment
     ensures { λ r. ⌜ Judges (now (share .entry)) (outcomeOf r) ⌝ }
 {
-    let head = kind1::head_in(share);
-    let letters = kind1::total(head);
-    let at = search::first_wrong(share, 0, head, letters);
-    judged(kind1::SIZE, head, letters, at, share.len())
+    let head = head_bytes::head_in(share);
+    let front = kinds::head_size(head.kind);
+    let letters = head_bytes::total(head);
+    let at = search::first_wrong(share, 0, front, head, letters);
+    judged(front, head, letters, at, share.len())
 }
 
 // How many of these bytes can stand, from the front: all of them where they are a share or the beginning of one, else as many as stand before
@@ -38,8 +39,9 @@ pub fn judge(share: &[u8]) -> Judgment
 pub fn good_bytes(share: &[u8]) -> usize
     ensures { λ r. ⌜ CanStandTo (now (share .entry)) r ⌝ }
 {
-    let head = kind1::head_in(share);
-    search::first_wrong(share, 0, head, kind1::total(head))
+    let head = head_bytes::head_in(share);
+    let front = kinds::head_size(head.kind);
+    search::first_wrong(share, 0, front, head, head_bytes::total(head))
 }
 
 // How many bytes have to be in before a share with this head is complete: all of them, its end too.
