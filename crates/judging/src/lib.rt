@@ -9,6 +9,7 @@ use records::sizes;
 ghost use mathlib.Core.Path.{_≡_};
 ghost use Prim.Native.Nat.{_≤_, _<_};
 ghost use Rattle.records.specs.Records.{blockSize, totalLimit, sizeFor};
+ghost use Rattle.kinds.specs.Kinds.{headSize};
 ghost use Rattle.judging.specs.Judging.{Judges, CanStandTo, outcomeOf};
 ghost use Rattle.judging.specs.Steps.Search.{judgmentAt};
 
@@ -28,10 +29,9 @@ pub fn judge(share: &[u8]) -> Judgment
     ensures { λ r. ⌜ Judges (now (share .entry)) (outcomeOf r) ⌝ }
 {
     let head = head_bytes::head_in(share);
-    let front = kinds::head_size(head.kind);
     let letters = head_bytes::total(head);
-    let at = search::first_wrong(share, 0, front, head, letters);
-    judged(front, head, letters, at, share.len())
+    let at = search::first_wrong(share, 0, head, letters);
+    judged(head, letters, at, share.len())
 }
 
 // How many of these bytes can stand, from the front: all of them where they are a share or the beginning of one, else as many as stand before
@@ -40,8 +40,7 @@ pub fn good_bytes(share: &[u8]) -> usize
     ensures { λ r. ⌜ CanStandTo (now (share .entry)) r ⌝ }
 {
     let head = head_bytes::head_in(share);
-    let front = kinds::head_size(head.kind);
-    search::first_wrong(share, 0, front, head, head_bytes::total(head))
+    search::first_wrong(share, 0, head, head_bytes::total(head))
 }
 
 // How many bytes have to be in before a share with this head is complete: all of them, its end too.
@@ -53,10 +52,11 @@ fn bytes_to_see(front: usize, letters: usize) -> usize
 }
 
 // What bytes are whose first wrong one is at this index: all of them stand if there is none.
-pub fn judged(front: usize, head: Head, letters: usize, at: usize, count: usize) -> Judgment
-    requires { ⌜ (front ≤ blockSize) × (letters < totalLimit) ⌝ }
-    ensures { λ r. ⌜ r ≡ judgmentAt front head letters at count ⌝ }
+pub fn judged(head: Head, letters: usize, at: usize, count: usize) -> Judgment
+    requires { ⌜ letters < totalLimit ⌝ }
+    ensures { λ r. ⌜ r ≡ judgmentAt (headSize (head .kind)) head letters at count ⌝ }
 {
+    let front = kinds::head_size(head.kind);
     if at < count {
         return Judgment::Malformed(refusing::refusal_at(front, letters, at), at);
     }

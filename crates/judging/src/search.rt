@@ -23,9 +23,18 @@ fn stands_in(head: Head, letters: usize, nth: usize, offset: usize, byte: u8) ->
     standing::record_stands(letters, nth - 1, offset, byte)
 }
 
-// The index of the first of these bytes that can't stand where it is, or the number of bytes: record by record, byte by byte. The first of
-// them stands at index `base` of a share with this head, which has `front` bytes and `letters` letters. Full blocks are stepped over.
-pub fn first_wrong(bytes: &[u8], base: usize, front: usize, head: Head, letters: usize) -> usize
+// The index of the first of these bytes that can't stand where it is, or the number of bytes. The first of them stands at index `base` of a share
+// with this head.
+pub fn first_wrong(bytes: &[u8], base: usize, head: Head, letters: usize) -> usize
+    requires { ⌜ (base ≤ farthest) × (letters ≡ heads .total head) ⌝ }
+    ensures { λ r. ⌜ StopsFrom base head (now (bytes .entry)) r ⌝ }
+{
+    let front = kinds::head_size(head.kind);
+    first_wrong_behind(bytes, base, front, head, letters)
+}
+
+// The same where the head's size is known: record by record, byte by byte. Full blocks are stepped over.
+fn first_wrong_behind(bytes: &[u8], base: usize, front: usize, head: Head, letters: usize) -> usize
     requires { ⌜ (base ≤ farthest) × (front ≡ headSize (head .kind)) × (letters ≡ heads .total head) ⌝ }
     ensures { λ r. ⌜ StopsFrom base head (now (bytes .entry)) r ⌝ }
 {

@@ -1,4 +1,4 @@
--- `search::first_wrong` meets its contract: every byte passed stands, looked at or stepped over, and the byte at which the loops are
+-- `search::first_wrong_behind` meets its contract: every byte passed stands, looked at or stepped over, and the byte at which the loops are
 -- left by their label doesn't, since the offset in its record tells its test.
 use mathlib.Core.Path.{_≡_, sym, _∙_}
 use Prim.Native.Nat.{ℕ, _+_, _-_, _≤_}
@@ -12,8 +12,8 @@ use Rattle.kinds.proofs.RowLaws.{size-small}
 use Rattle.heads.specs.declared.Head.{Head}
 use Rattle.heads.proofs.HeadLaws.{total-small}
 use Rattle.judging.proofs.Walk.{InRecord, SoFar, size-at-most, offset-within, enter, stride, offset-small, tested, further, beyond}
-use Rattle.judging.proofs.search.first_wrong.Statement.{statement}
-use Rattle.judging.proofs.search.first_wrong.Tie as tie
+use Rattle.judging.proofs.search.first_wrong_behind.Statement.{statement}
+use Rattle.judging.proofs.search.first_wrong_behind.Tie as tie
 
 -- a head is no longer than a block
 few : (h : Head) (front : ℕ) → front ≡ headSize (h .kind) → front ≤ blockSize
@@ -142,8 +142,8 @@ returns-2 c =
           ∙ not-true _ (c .if1 .taken);
     }
 
-pub first-wrong-spec : {M : Type 1} → statement M
-first-wrong-spec =
+pub first-wrong-behind-spec : {M : Type 1} → statement M
+first-wrong-behind-spec =
     tie.close
     (tie.spec
     Inv-loop
