@@ -112,7 +112,7 @@ helped-piece g f helper u held before after r c z = called-fine _ _ _ before aft
 module _ (g : Group) (ids : List ℕ) (chosen : Chosen g (g .k) ids) where
   -- rank v is a node, and an entry that is read is free
   node-of-rank : (v : ℕ) → 1 ≤ v → v ≤ g .k → NodeOf g (ranked ids v)
-  node-of-rank v lv hv = record { group = chosen .group; low = chosen .falling .from-one v lv hv; high = chosen .known v lv hv }
+  node-of-rank v lv hv = record { group = chosen .group; low = chosen .nodes .falling .from-one v lv hv; high = chosen .nodes .known v lv hv }
 
   free-entry : (v u : ℕ) → 1 ≤ v → v ≤ g .k → v ≤ u → u ≤ g .d → Free g v u
   free-entry v u lv hv h hu = record { group = chosen .group; row = lv; within = h; upper = hv; column = hu }
@@ -261,7 +261,7 @@ rebuilt-honest g file state f helpers held after r honest stand calls =
     help-then-repair g f helpers file held after r
     (λ u lo hi.
     honest-letters g file (ranked helpers u) (state (ranked helpers u)) (held u) (stand u lo hi)
-    (honest (ranked helpers u) (record { group = chosen .group; low = chosen .falling .from-one u lo hi; high = chosen .known u lo hi })))
+    (honest (ranked helpers u) (record { group = chosen .group; low = chosen .nodes .falling .from-one u lo hi; high = chosen .nodes .known u lo hi })))
     calls .1
   where
     chosen : Chosen g (g .d) helpers
