@@ -7,7 +7,7 @@ use lib.Dec.{eqb}
 use lib.ListN.{length}
 use Rattle.group.specs.declared.Refusal.{Refusal}
 use Rattle.group.specs.declared.Answer.{Answer}
-use Rattle.group.specs.Answers.{refusalNumber, unless, first}
+use Rattle.group.specs.Answers.{refusalNumber, numberOf, valueOf, unless, first, Answers}
 use Rattle.group.proofs.Refusals.{numbered, refuses, gives, first-fine, if-refused, if-fine}
 use Rattle.group.specs.Answers.{Called, Solves}
 
@@ -44,3 +44,14 @@ pub solves-fine :
     → length after ≡ length before → given after ≡ before → Solves q given worth before after (Answer.Value count)
 solves-fine q count given worth before after e counted size is =
     record { answer = gives q count (worth after) e counted; same-length = size; holds = if-fine q (given after) after e ∙ is }
+
+-- an answer that is no refusal carries its value, and the call's own number is 0
+pub fine-number : (r : Answer) (q v : ℕ) → Answers r q v → numberOf r ≡ 0 → q ≡ 0
+fine-number r q v a z = sym (a .number) ∙ z
+
+pub fine-value : (r : Answer) (q v : ℕ) → Answers r q v → numberOf r ≡ 0 → valueOf r ≡ v
+fine-value r q v a z = a .valued ∙ if-fine q v 0 (fine-number r q v a z)
+
+-- a call that is not refused leaves what is right
+pub called-fine : (q v : ℕ) (right before after : List ℕ) (r : Answer) → Called q v right before after r → numberOf r ≡ 0 → after ≡ right
+called-fine q v right before after r c z = c .holds ∙ if-fine q right before (fine-number r q v (c .answer) z)
