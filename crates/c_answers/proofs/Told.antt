@@ -5,7 +5,7 @@ use Prim.Native.Nat.{ℕ, zero, suc}
 use Rattle.group.specs.declared.Refusal.{Refusal}
 use Rattle.group.specs.declared.Answer.{Answer}
 use Rattle.group.specs.Answers.{Called, Solves, numberOf, valueOf, ifFine, Answers}
-use Rattle.group.proofs.Refusals.{numbered, if-refused}
+use Rattle.group.proofs.Refusals.{numbered, if-refused, if-fine}
 use Rattle.c_answers.specs.Exports.{Tells, Fills, SolvesTold}
 
 -- a value stands in the lent number
@@ -42,3 +42,7 @@ solves-told-of a q given worth before after count count′ r done e h =
       same-length = done .same-length;
       holds = done .holds;
     }
+
+-- an export that fills a buffer and returns 0 leaves what is right
+pub filled : (q : ℕ) (right before after : List ℕ) (r : ℕ) → Fills q right before after r → r ≡ 0 → after ≡ right
+filled q right before after r f z = f .holds ∙ if-fine q right before (sym (f .returned) ∙ z)
