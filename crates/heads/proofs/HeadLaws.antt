@@ -18,7 +18,7 @@ use Rattle.records.specs.Steps.Ranges.{rangeTests}
 use Rattle.records.proofs.NumberBytes.{length-number, number-same, number-back, number-below, number-own, BytesFrom}
 use Rattle.records.proofs.RangeBytes.{range-held, range-past, range-told, range-same, range-next}
 use Rattle.kinds.specs.Kinds.{rowOf, isKind, headSize, InRow}
-use Rattle.kinds.proofs.RowLaws.{row-laws, some-total, kind-total}
+use Rattle.kinds.proofs.RowLaws.{row-laws, kind-fine, fine-kind, total-fine, total-refused, row-small}
 use Rattle.layout.specs.Laws.{Lawful, SameBelow, Passes}
 use Rattle.heads.specs.declared.Head.{Head}
 use Rattle.heads.specs.Heads.{headRecord, HeadNumbers, headTotal, headIn, headTests, heads}
@@ -117,18 +117,25 @@ module _ (h : Head) where
 
 -- T has room in its bytes, and there are letters exactly where kind and numbers are in range
 pub total-small : (h : Head) → headTotal h < totalLimit
-total-small h = row-laws (h .kind) .small (h .group) (h .node)
+total-small h = row-small (h .kind) (h .group) (h .node)
+
+pub total-of : (h : Head) → HeadNumbers h → headTotal h ≡ rowOf (h .kind) .letters (h .group) (h .node)
+total-of h w = total-fine (h .kind) (h .group) (h .node) (kind-fine (h .kind) (h .group) (h .node) (w .kind) (w .numbers))
 
 pub total-some : (h : Head) → HeadNumbers h → headTotal h ≡ 0 → ⊥
-total-some h w = some-total (h .kind) (h .group) (h .node) (w .kind) (w .numbers)
+total-some h w none =
+    omega (arith, total-of h w, row-laws (h .kind) .some-letters (h .group) (h .node) (w .numbers))
 
-pub some-numbers : (h : Head) → h .batch < 2 ^ 32 → (headTotal h ≡ 0 → ⊥) → HeadNumbers h
-some-numbers h batch some =
+pub fine-numbers : (h : Head) → h .batch < 2 ^ 32 → rowOf (h .kind) .refusal (h .group) (h .node) ≡ 0 → HeadNumbers h
+fine-numbers h batch fine =
     record {
-      kind = kind-total (h .kind) (h .group) (h .node) some;
-      numbers = row-laws (h .kind) .ranged (h .group) (h .node) some;
+      kind = fine-kind (h .kind) (h .group) (h .node) fine;
+      numbers = row-laws (h .kind) .ranged (h .group) (h .node) fine;
       batch = batch;
     }
+
+pub some-numbers : (h : Head) → h .batch < 2 ^ 32 → (headTotal h ≡ 0 → ⊥) → HeadNumbers h
+some-numbers h batch some = fine-numbers h batch (total-refused (h .kind) (h .group) (h .node) some)
 
 -- the size of the head that bytes tell is that of their kind
 pub size-told : (xs : List ℕ) (h : Head) (front : ℕ) → front ≡ headSize (h .kind) → h ≡ headIn xs → front ≡ headSize (getD xs 0 0)

@@ -8,7 +8,7 @@ use lib.ListN.{getD}
 use Rattle.group.specs.Ranges.{groupOf, between, mostNodes}
 use Rattle.records.specs.Records.{number, numberIn}
 use Rattle.records.specs.Steps.Ranges.{rangeTests}
-use Rattle.kinds.specs.Kinds.{rowOf, isKind, headSize, InRow}
+use Rattle.kinds.specs.Kinds.{rowOf, isKind, headSize, InRow, rowTotal}
 use Rattle.layout.specs.Layout.{Layout}
 use Rattle.heads.specs.declared.Head.{Head}
 
@@ -30,7 +30,7 @@ pub record HeadNumbers (h : Head) : Type 0 where
 
 -- T by the head's numbers; 0 where they are out of range
 abbrev pub headTotal : Head → ℕ
-headTotal h = rowOf (h .kind) .total (h .group) (h .node)
+headTotal h = rowTotal (rowOf (h .kind)) (h .group) (h .node)
 
 -- the head's numbers as the bytes have them; a byte that isn't there counts as 0
 unfoldable pub headIn : List ℕ → Head

@@ -17,7 +17,7 @@ use Rattle.preview_numbers.proofs.InRange.{preview-node-of, of-preview-node}
 use Rattle.preview_numbers.proofs.Sizes.{preview-packet-at-most, preview-packet-some}
 use Rattle.records.specs.Records.{blockSize, totalLimit}
 use Rattle.records.proofs.RangeBytes.{AnyBetween, from-one}
-use Rattle.kinds.specs.Kinds.{Row, repairing, previews, noKind, rowOf, isKind, InRow, headSize}
+use Rattle.kinds.specs.Kinds.{Row, repairing, previews, noKind, rowOf, isKind, InRow, rowTotal, headSize}
 use Rattle.kinds.specs.Steps.Rows.{limitsIn, limitsAt}
 
 -- What is asked of a row.
@@ -31,18 +31,10 @@ pub record RowLaws (row : Row) : Type 0 where
   pub low-l : row .leastL ≤ 2 ^ 32
   -- where 0 and 255 can both be the next byte of L, any can
   pub any-l : AnyBetween (row .lengthBytes) (row .leastL) (row .mostL)
-  -- T has room in its bytes, and there are letters only where the numbers are in range
-  pub small : (g : Group) (i : ℕ) → row .total g i < totalLimit
-  pub ranged : (g : Group) (i : ℕ) → (row .total g i ≡ 0 → ⊥) → InRow row g i
-
--- T where a refusal decides
-total-below : (q t : ℕ) → (q ≡ 0 → t < totalLimit) → ifFine q t 0 < totalLimit
-total-below zero t h = h refl
-total-below (suc q) t h = omega arith
-
-total-fine : (q t : ℕ) → (ifFine q t 0 ≡ 0 → ⊥) → q ≡ 0
-total-fine zero t h = refl
-total-fine (suc q) t h = absurd (h refl)
+  -- what isn't refused is in the ranges, and then there are letters, for whose number the end has room
+  pub ranged : (g : Group) (i : ℕ) → row .refusal g i ≡ 0 → InRow row g i
+  pub some-letters : (g : Group) (i : ℕ) → InRow row g i → 1 ≤ row .letters g i
+  pub few-letters : (g : Group) (i : ℕ) → InRow row g i → row .letters g i < totalLimit
 
 -- kind 1: the ranges are those of a node of a group
 pub repairing-node : (g : Group) (i : ℕ) → InRow repairing g i → NodeOf g i
@@ -122,8 +114,9 @@ repairing-laws =
       few-bytes = omega arith;
       low-l = omega arith;
       any-l = from-one 2 1 _ (omega arith);
-      small = λ g i. total-below (nodeRefusal g i) (nodeLetters g i) (λ e. omega (arith, node-at-most g i (node-of g i e)));
-      ranged = λ g i some. node-repairing g i (node-of g i (total-fine (nodeRefusal g i) (nodeLetters g i) some));
+      ranged = λ g i e. node-repairing g i (node-of g i e);
+      some-letters = λ g i r. node-some g i (repairing-node g i r);
+      few-letters = λ g i r. omega (arith, node-at-most g i (repairing-node g i r));
     }
 
 previews-laws : RowLaws previews
@@ -136,8 +129,9 @@ previews-laws =
       few-bytes = omega arith;
       low-l = omega arith;
       any-l = from-one 2 1 _ (omega arith);
-      small = λ g i. total-below (previewNodeRefusal g i) (previewPacket g i) (λ e. omega (arith, preview-packet-at-most g i (preview-node-of g i e)));
-      ranged = λ g i some. node-previews g i (preview-node-of g i (total-fine (previewNodeRefusal g i) (previewPacket g i) some));
+      ranged = λ g i e. node-previews g i (preview-node-of g i e);
+      some-letters = λ g i r. preview-packet-some g i (previews-node g i r);
+      few-letters = λ g i r. omega (arith, preview-packet-at-most g i (previews-node g i r));
     }
 
 none-laws : RowLaws noKind
@@ -150,8 +144,9 @@ none-laws =
       few-bytes = omega arith;
       low-l = omega arith;
       any-l = repairing-laws .any-l;
-      small = λ g i. omega arith;
-      ranged = λ g i some. absurd (some refl);
+      ranged = λ g i e. absurd (omega arith);
+      some-letters = λ g i r. omega arith;
+      few-letters = λ g i r. omega arith;
     }
 
 -- the table
@@ -164,26 +159,45 @@ row-laws kind = by (eqb kind 1) (eqb kind 5)
     by false true = previews-laws
     by false false = none-laws
 
--- what is a kind has letters where its numbers are in range, and what is none has none
-pub some-total : (kind : ℕ) (g : Group) (i : ℕ) → isKind kind ≡ true → InRow (rowOf kind) g i → rowOf kind .total g i ≡ 0 → ⊥
+-- what is a kind refuses nothing that is in its ranges, and what is none refuses everything
+pub kind-fine : (kind : ℕ) (g : Group) (i : ℕ) → isKind kind ≡ true → InRow (rowOf kind) g i → rowOf kind .refusal g i ≡ 0
 unfolding rowOf isKind
-some-total kind g i = by (eqb kind 1) (eqb kind 5)
+kind-fine kind g i = by (eqb kind 1) (eqb kind 5)
   where
     by :
         (a b : Bool) → either a b ≡ true → InRow (cond a repairing (cond b previews noKind)) g i
-        → cond a repairing (cond b previews noKind) .total g i ≡ 0 → ⊥
-    by true b e r none = let w = repairing-node g i r in omega (arith, ap (λ q. ifFine q (nodeLetters g i) 0) (of-node g i w), node-some g i w)
-    by false true e r none = let w = previews-node g i r in omega (arith, ap (λ q. ifFine q (previewPacket g i) 0) (of-preview-node g i w), preview-packet-some g i w)
-    by false false e r none = let z : _≡_ {A = ℕ} 0 1 = cc in omega arith
+        → cond a repairing (cond b previews noKind) .refusal g i ≡ 0
+    by true b e r = of-node g i (repairing-node g i r)
+    by false true e r = of-preview-node g i (previews-node g i r)
+    by false false e r = let z : _≡_ {A = ℕ} 0 1 = cc in absurd (omega arith)
 
-pub kind-total : (kind : ℕ) (g : Group) (i : ℕ) → (rowOf kind .total g i ≡ 0 → ⊥) → isKind kind ≡ true
+pub fine-kind : (kind : ℕ) (g : Group) (i : ℕ) → rowOf kind .refusal g i ≡ 0 → isKind kind ≡ true
 unfolding rowOf isKind
-kind-total kind g i = by (eqb kind 1) (eqb kind 5)
+fine-kind kind g i = by (eqb kind 1) (eqb kind 5)
   where
-    by : (a b : Bool) → (cond a repairing (cond b previews noKind) .total g i ≡ 0 → ⊥) → either a b ≡ true
-    by true b some = refl
-    by false true some = refl
-    by false false some = absurd (some refl)
+    by : (a b : Bool) → cond a repairing (cond b previews noKind) .refusal g i ≡ 0 → either a b ≡ true
+    by true b e = refl
+    by false true e = refl
+    by false false e = absurd (omega arith)
+
+-- so T: the letters where nothing is refused, and else 0
+module _ (kind : ℕ) (g : Group) (i : ℕ) where
+  pub total-fine : rowOf kind .refusal g i ≡ 0 → rowTotal (rowOf kind) g i ≡ rowOf kind .letters g i
+  total-fine e = ap (λ q. ifFine q (rowOf kind .letters g i) 0) e
+
+  pub total-refused : (rowTotal (rowOf kind) g i ≡ 0 → ⊥) → rowOf kind .refusal g i ≡ 0
+  total-refused = by (rowOf kind .refusal g i)
+    where
+      by : (q : ℕ) → (ifFine q (rowOf kind .letters g i) 0 ≡ 0 → ⊥) → q ≡ 0
+      by zero some = refl
+      by (suc q) some = absurd (some refl)
+
+  pub row-small : rowTotal (rowOf kind) g i < totalLimit
+  row-small = by (rowOf kind .refusal g i) refl
+    where
+      by : (q : ℕ) → rowOf kind .refusal g i ≡ q → ifFine q (rowOf kind .letters g i) 0 < totalLimit
+      by zero e = row-laws kind .few-letters g i (row-laws kind .ranged g i e)
+      by (suc q) e = omega arith
 
 -- a kind is a byte
 pub kind-small : (kind : ℕ) → isKind kind ≡ true → kind < 256

@@ -21,8 +21,9 @@ pub record Row : Type 0 where
   pub lengthBytes : ℕ
   pub leastL : ℕ
   pub mostL : ℕ
-  -- T, the letters of a node's share; 0 where the numbers are out of range
-  pub total : Group → ℕ → ℕ
+  -- the refusals 1, 2 and 3 of a node with these numbers, and T, the letters that it holds
+  pub refusal : Group → ℕ → ℕ
+  pub letters : Group → ℕ → ℕ
 
 -- Kind 1, the packets of the repairing code: k <= d <= n-1, L of two bytes, T = d(L + t(i,d)).
 abbrev pub repairing : Row
@@ -34,7 +35,8 @@ repairing =
       lengthBytes = 2;
       leastL = 1;
       mostL = longest;
-      total = λ g i. ifFine (nodeRefusal g i) (nodeLetters g i) 0;
+      refusal = nodeRefusal;
+      letters = nodeLetters;
     }
 
 -- Kind 5, a packet of previews: k <= n, d is 0, L of two bytes, T = L + t(i,k) by the previews' rule.
@@ -47,10 +49,11 @@ previews =
       lengthBytes = 2;
       leastL = 1;
       mostL = longestPreview;
-      total = λ g i. ifFine (previewNodeRefusal g i) (previewPacket g i) 0;
+      refusal = previewNodeRefusal;
+      letters = previewPacket;
     }
 
--- a number that is no kind: no share has it, and its row has no letters
+-- a number that is no kind: no share has it, and it refuses everything
 abbrev pub noKind : Row
 noKind =
     record {
@@ -60,7 +63,8 @@ noKind =
       lengthBytes = 2;
       leastL = 1;
       mostL = longest;
-      total = λ g i. 0;
+      refusal = λ g i. 1;
+      letters = λ g i. 1;
     }
 
 -- the table
@@ -83,6 +87,10 @@ pub record InRow (row : Row) (g : Group) (i : ℕ) : Type 0 where
   pub node-high : i ≤ g .n
   pub l-low : row .leastL ≤ g .l
   pub l-high : g .l ≤ row .mostL
+
+-- T by the numbers of a head of this row; 0 where they are refused
+abbrev pub rowTotal : Row → Group → ℕ → ℕ
+rowTotal row g i = ifFine (row .refusal g i) (row .letters g i) 0
 
 -- the bytes of a head of this kind: the kind, n, k, d, node, L, and the batch
 unfoldable pub headSize : ℕ → ℕ

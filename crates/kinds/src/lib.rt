@@ -2,12 +2,15 @@
 // row more, here and in specs/Kinds.antt.
 mod totals;
 
+use group::Check;
 use group::Group;
+use group::Refusal;
 use group::checks;
 use preview_numbers::checks as previews;
 ghost use mathlib.Core.Path.{_≡_};
 ghost use Prim.Native.Nat.{_-_};
-ghost use Rattle.kinds.specs.Kinds.{isKind, rowOf, headSize};
+ghost use Rattle.group.specs.Answers.{checkNumber};
+ghost use Rattle.kinds.specs.Kinds.{isKind, rowOf, rowTotal, headSize};
 ghost use Rattle.kinds.specs.Steps.Rows.{limitsAt};
 
 // A node's packets of the repairing code.
@@ -79,9 +82,22 @@ pub fn head_size(kind: usize) -> usize
     5 + row.length_bytes + 4
 }
 
+// A node with these numbers, by the ranges of its kind: refusals 1, 2 and 3.
+pub fn check(kind: usize, g: Group, node: usize) -> Check
+    ensures { λ r. ⌜ checkNumber r ≡ rowOf kind .refusal g node ⌝ }
+{
+    if kind == REPAIRING {
+        return checks::node(g, node);
+    }
+    if kind == PREVIEWS {
+        return previews::node(g, node);
+    }
+    Check::Refused(Refusal::Numbers)
+}
+
 // T, the letters of a share with these numbers; 0 where they are out of range, or where this is no kind.
 pub fn total(kind: usize, g: Group, node: usize) -> usize
-    ensures { λ r. ⌜ r ≡ rowOf kind .total g node ⌝ }
+    ensures { λ r. ⌜ r ≡ rowTotal (rowOf kind) g node ⌝ }
 {
     if kind == REPAIRING {
         return totals::repairing(g, node);
