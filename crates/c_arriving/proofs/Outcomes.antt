@@ -9,7 +9,7 @@ use Rattle.group.specs.Answers.{Outcome}
 use Rattle.heads.specs.declared.Head.{Head}
 use Rattle.arriving.proofs.Outcomes.{taken-once, same-judgment, good-once, same-coming}
 use Rattle.c_shares.proofs.Outcomes.{told-once}
-use Rattle.c_arriving.specs.Arrivals.{stateIn, eight, StartsWords, TakesWords, JudgesWords, CountsWords, TellsComing, AnnouncesWords}
+use Rattle.c_arriving.specs.Arrivals.{stateIn, nine, StartsWords, TakesWords, JudgesWords, CountsWords, TellsComing, AnnouncesWords}
 
 pub starts-once : {words after after′ : List ℕ} {r r′ : ℕ} → StartsWords words r after → StartsWords words r′ after′ → (r ≡ r′) × (after ≡ after′)
 starts-once (StartsWords.started l) (StartsWords.started l′) = (refl, refl)
@@ -19,7 +19,7 @@ starts-once (StartsWords.unfit n) (StartsWords.unfit n′) = (refl, refl)
 
 pub takes-once :
     {words bytes after after′ : List ℕ} {r r′ : ℕ} → TakesWords words bytes r after → TakesWords words bytes r′ after′ → (r ≡ r′) × (after ≡ after′)
-takes-once {words} {bytes} (TakesWords.taken l s t) (TakesWords.taken l′ s′ t′) = (refl, ap eight (taken-once (stateIn words) bytes s s′ t t′))
+takes-once {words} {bytes} (TakesWords.taken l s t) (TakesWords.taken l′ s′ t′) = (refl, ap nine (taken-once (stateIn words) bytes s s′ t t′))
 takes-once (TakesWords.taken l s t) (TakesWords.unfit n) = absurd (n l)
 takes-once (TakesWords.unfit n) (TakesWords.taken l s t) = absurd (n l)
 takes-once (TakesWords.unfit n) (TakesWords.unfit n′) = (refl, refl)
@@ -58,10 +58,10 @@ announces-once (AnnouncesWords.unfit u) (AnnouncesWords.announced l j a n _ c t)
 announces-once (AnnouncesWords.unfit u) (AnnouncesWords.unfit u′) = (refl, refl, refl)
 
 -- Two arrays are one state only if all their numbers are the same: the state's numbers are the array's.
-pub words-back : (words : List ℕ) → length words ≡ 8 → eight (stateIn words) ≡ words
-words-back words e = ext-getD 0 (eight (stateIn words)) words (sym e) each
+pub words-back : (words : List ℕ) → length words ≡ 9 → nine (stateIn words) ≡ words
+words-back words e = ext-getD 0 (nine (stateIn words)) words (sym e) each
   where
-    each : (i : ℕ) → i < 8 → getD (eight (stateIn words)) i 0 ≡ getD words i 0
+    each : (i : ℕ) → i < 9 → getD (nine (stateIn words)) i 0 ≡ getD words i 0
     each zero h = refl
     each (suc zero) h = refl
     each (suc (suc zero)) h = refl
@@ -70,7 +70,8 @@ words-back words e = ext-getD 0 (eight (stateIn words)) words (sym e) each
     each (suc (suc (suc (suc (suc zero))))) h = refl
     each (suc (suc (suc (suc (suc (suc zero)))))) h = refl
     each (suc (suc (suc (suc (suc (suc (suc zero))))))) h = refl
-    each (suc (suc (suc (suc (suc (suc (suc (suc i)))))))) h = absurd (omega arith)
+    each (suc (suc (suc (suc (suc (suc (suc (suc zero)))))))) h = refl
+    each (suc (suc (suc (suc (suc (suc (suc (suc (suc i))))))))) h = absurd (omega arith)
 
-pub one-array : (words others : List ℕ) → length words ≡ 8 → length others ≡ 8 → stateIn words ≡ stateIn others → words ≡ others
-one-array words others e f same = sym (words-back words e) ∙ ap eight same ∙ words-back others f
+pub one-array : (words others : List ℕ) → length words ≡ 9 → length others ≡ 9 → stateIn words ≡ stateIn others → words ≡ others
+one-array words others e f same = sym (words-back words e) ∙ ap nine same ∙ words-back others f

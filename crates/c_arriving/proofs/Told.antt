@@ -9,12 +9,12 @@ use Rattle.heads.specs.declared.Head.{Head}
 use Rattle.arriving.specs.declared.Arriving.{Arriving}
 use Rattle.arriving.specs.declared.Coming.{Coming}
 use Rattle.arriving.specs.Calls.{Takes, JudgesState, GoodBytesOf, comingOf, Announces}
-use Rattle.c_shares.specs.Shares.{six, TellsJudgment}
-use Rattle.c_arriving.specs.Arrivals.{stateIn, eight, TakesWords, JudgesWords, CountsWords, TellsComing, AnnouncesWords}
+use Rattle.c_shares.specs.Shares.{seven, TellsJudgment}
+use Rattle.c_arriving.specs.Arrivals.{stateIn, nine, TakesWords, JudgesWords, CountsWords, TellsComing, AnnouncesWords}
 
-module _ (words : List ℕ) (s : Arriving) (fits : length words ≡ 8) (is : s ≡ stateIn words) where
+module _ (words : List ℕ) (s : Arriving) (fits : length words ≡ 9) (is : s ≡ stateIn words) where
   -- taking
-  pub took : (bytes full : List ℕ) (r : Arriving) → Takes s bytes r → full ≡ eight r → TakesWords words bytes 0 full
+  pub took : (bytes full : List ℕ) (r : Arriving) → Takes s bytes r → full ≡ nine r → TakesWords words bytes 0 full
   took bytes full r takes put = subst (TakesWords words bytes 0) (sym put) (TakesWords.taken fits r (subst (λ s. Takes s bytes r) is takes))
 
   -- a judgment
@@ -32,11 +32,11 @@ module _ (words : List ℕ) (s : Arriving) (fits : length words ≡ 8) (is : s �
   announced head after bytes count j n announces told = AnnouncesWords.announced fits j (subst (λ s. Announces s j) is announces) n after count told
 
 module _ (head : List ℕ) (bytes : ℕ) (j : Coming) where
-  pub told-misfit : (h : Head) (count : ℕ) → j ≡ Coming.Share h count → (length head ≡ 6 → ⊥) → TellsComing head bytes (comingOf j) 6 head bytes
+  pub told-misfit : (h : Head) (count : ℕ) → j ≡ Coming.Share h count → (length head ≡ 7 → ⊥) → TellsComing head bytes (comingOf j) 6 head bytes
   told-misfit h count e ne = rw e (TellsComing.misfit h count ne)
 
   pub told-share :
-      (full : List ℕ) (h : Head) (count : ℕ) → j ≡ Coming.Share h count → length head ≡ 6 → full ≡ six h → TellsComing head bytes (comingOf j) 0 full count
+      (full : List ℕ) (h : Head) (count : ℕ) → j ≡ Coming.Share h count → length head ≡ 7 → full ≡ seven h → TellsComing head bytes (comingOf j) 0 full count
   told-share full h count e room put = rw (e, put) (TellsComing.known h count room)
 
   pub told-refused : (r : Refusal) (n : ℕ) → j ≡ Coming.Refused r → n ≡ refusalNumber r → TellsComing head bytes (comingOf j) n head bytes

@@ -1,17 +1,17 @@
-// A share that arrives, for C: the state is an array of eight numbers that the caller owns, and any numbers may stand in it.
+// A share that arrives, for C: the state is an array of nine numbers that the caller owns, and any numbers may stand in it.
 use arriving::Arriving;
 use arriving::Coming;
 ghost use mathlib.Core.Path.{_≡_};
 ghost use lib.ListN.{length};
 ghost use Rattle.arriving.specs.Calls.{comingOf};
-ghost use Rattle.c_arriving.specs.Arrivals.{stateIn, eight, StartsWords, TakesWords, JudgesWords, CountsWords, TellsComing, AnnouncesWords};
+ghost use Rattle.c_arriving.specs.Arrivals.{stateIn, nine, StartsWords, TakesWords, JudgesWords, CountsWords, TellsComing, AnnouncesWords};
 
 // The numbers of a state.
-const WORDS: usize = 8;
+const WORDS: usize = 9;
 
-// The state that eight numbers are.
+// The state that nine numbers are.
 fn state_in(words: &[usize]) -> Arriving
-    requires { ⌜ length (now words) ≡ 8 ⌝ }
+    requires { ⌜ length (now words) ≡ 9 ⌝ }
     ensures { λ r. ⌜ r ≡ stateIn (now (words .entry)) ⌝ }
 {
     Arriving {
@@ -23,13 +23,14 @@ fn state_in(words: &[usize]) -> Arriving
         node: words[5],
         l: words[6],
         batch: words[7],
+        kind: words[8],
     }
 }
 
-// Puts a state's eight numbers.
+// Puts a state's nine numbers.
 fn put_state(state: Arriving, into: &mut [usize])
-    requires { ⌜ length (now into) ≡ 8 ⌝ }
-    ensures { λ r. ⌜ now (into .exit) ≡ eight state ⌝ }
+    requires { ⌜ length (now into) ≡ 9 ⌝ }
+    ensures { λ r. ⌜ now (into .exit) ≡ nine state ⌝ }
 {
     into[0] = state.at;
     into[1] = state.wrong;
@@ -39,6 +40,7 @@ fn put_state(state: Arriving, into: &mut [usize])
     into[5] = state.node;
     into[6] = state.l;
     into[7] = state.batch;
+    into[8] = state.kind;
 }
 
 // The state of no bytes. Refusal: 5.
@@ -67,7 +69,7 @@ pub extern "C" fn dulvaspen_arriving_take(state: &mut [usize], bytes: &[u8]) -> 
     0
 }
 
-// What all bytes so far are. Refusals: 5, then 7 to 12, and then 6 for a head that has not six numbers.
+// What all bytes so far are. Refusals: 5, then 7 to 12, and then 6 for a head that has not seven numbers.
 #[no_mangle]
 pub extern "C" fn dulvaspen_arriving_judge(state: &[usize], head: &mut [usize]) -> usize
     ensures { λ r. ⌜ JudgesWords (now (state .entry)) (now (head .entry)) r (now (head .exit)) ⌝ }
@@ -93,13 +95,13 @@ pub extern "C" fn dulvaspen_arriving_good_bytes(state: &[usize], bytes: &mut usi
     0
 }
 
-// Tells the share that is coming: its number, and its head and its bytes where there is room for six numbers, else 6.
+// Tells the share that is coming: its number, and its head and its bytes where there is room for seven numbers, else 6.
 fn put_coming(coming: Coming, head: &mut [usize], bytes: &mut usize) -> usize
     ensures { λ r. ⌜ TellsComing (now (head .entry)) (now (bytes .entry)) (comingOf coming) r (now (head .exit)) (now (bytes .exit)) ⌝ }
 {
     match coming {
         Coming::Share(found, count) => {
-            if head.len() != 6 {
+            if head.len() != 7 {
                 return 6;
             }
             c_shares::put_head(found, head);
@@ -112,7 +114,7 @@ fn put_coming(coming: Coming, head: &mut [usize], bytes: &mut usize) -> usize
 }
 
 // Whose share is coming and how many bytes it will have, as soon as its head is in. Refusals: 5, then 7 while the head isn't in and 8 to 12
-// as the judge, and then 6 for a head that has not six numbers.
+// as the judge, and then 6 for a head that has not seven numbers.
 #[no_mangle]
 pub extern "C" fn dulvaspen_arriving_head(
     state: &[usize],

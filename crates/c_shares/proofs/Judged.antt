@@ -1,4 +1,4 @@
--- A read is a judgment told: what `share::read` finds where the head has six numbers, and else what the bytes are judged to be.
+-- A read is a judgment told: what `share::read` finds where the head has seven numbers, and else what the bytes are judged to be.
 use mathlib.Core.Path.{_≡_, refl}
 use mathlib.Core.List.{List}
 use Prim.Native.Nat.{ℕ}
@@ -13,7 +13,7 @@ use Rattle.c_shares.specs.Shares.{TellsJudgment, JudgesShare, ReadsShare
 module _ {bytes packets head : List ℕ} where
   -- with room for the head
   pub told-read :
-      {j : Outcome Head} {r : ℕ} {held after : List ℕ} → length head ≡ 6 → Reads bytes packets j held → TellsJudgment head j r after
+      {j : Outcome Head} {r : ℕ} {held after : List ℕ} → length head ≡ 7 → Reads bytes packets j held → TellsJudgment head j r after
       → ReadsShare bytes packets head r held after
   told-read e (Reads.complete h l s f) (TellsJudgment.complete _ _) = ReadsShare.complete h l s f e
   told-read e (Reads.complete h l s f) (TellsJudgment.misfit _ n) = absurd (n e)
@@ -22,7 +22,7 @@ module _ {bytes packets head : List ℕ} where
   told-read e (Reads.misfit h l s n) (TellsJudgment.refused _) = ReadsShare.misfit h l s (λ f _. n f)
 
   pub read-told :
-      {r : ℕ} {held after : List ℕ} → length head ≡ 6 → ReadsShare bytes packets head r held after
+      {r : ℕ} {held after : List ℕ} → length head ≡ 7 → ReadsShare bytes packets head r held after
       → (j : Outcome Head) × Reads bytes packets j held × TellsJudgment head j r after
   read-told e (ReadsShare.complete h l s f _) = (_, Reads.complete h l s f, TellsJudgment.complete h e)
   read-told e (ReadsShare.unfinished b) = (_, Reads.unfinished b, TellsJudgment.refused (refusalNumber Unfinished))
@@ -31,7 +31,7 @@ module _ {bytes packets head : List ℕ} where
 
   -- and without: no letter is copied
   pub told-judged :
-      {j : Outcome Head} {r : ℕ} {after : List ℕ} → (length head ≡ 6 → ⊥) → Judges bytes j → TellsJudgment head j r after
+      {j : Outcome Head} {r : ℕ} {after : List ℕ} → (length head ≡ 7 → ⊥) → Judges bytes j → TellsJudgment head j r after
       → ReadsShare bytes packets head r packets after
   told-judged n (Judges.complete h l s) (TellsJudgment.complete _ e) = absurd (n e)
   told-judged n (Judges.complete h l s) (TellsJudgment.misfit _ _) = ReadsShare.misfit h l s (λ _ e. n e)
@@ -39,7 +39,7 @@ module _ {bytes packets head : List ℕ} where
   told-judged n (Judges.malformed r q w) (TellsJudgment.malformed _ _) = ReadsShare.malformed r q w
 
   pub judged-told :
-      {r : ℕ} {held after : List ℕ} → (length head ≡ 6 → ⊥) → ReadsShare bytes packets head r held after
+      {r : ℕ} {held after : List ℕ} → (length head ≡ 7 → ⊥) → ReadsShare bytes packets head r held after
       → JudgesShare bytes head r after × (held ≡ packets)
   judged-told n (ReadsShare.complete h l s f e) = absurd (n e)
   judged-told n (ReadsShare.unfinished b) = (record { found = _; judges = Judges.unfinished b; told = TellsJudgment.refused (refusalNumber Unfinished) }, refl)

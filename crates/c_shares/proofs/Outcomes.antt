@@ -33,7 +33,7 @@ pub judges-share-once :
     {bytes head after after′ : List ℕ} {r r′ : ℕ} → JudgesShare bytes head r after → JudgesShare bytes head r′ after′ → (r ≡ r′) × (after ≡ after′)
 judges-share-once p q = told-once (same-judging (p .judges) (q .judges)) (p .told) (q .told)
 
--- reading finds one thing where the head has six numbers, and judging one where it has not
+-- reading finds one thing where the head has seven numbers, and judging one where it has not
 pub reads-share-once :
     {bytes packets head held held′ after after′ : List ℕ} {r r′ : ℕ} → ReadsShare bytes packets head r held after
     → ReadsShare bytes packets head r′ held′ after′ → (r ≡ r′) × (held ≡ held′) × (after ≡ after′)
@@ -50,7 +50,7 @@ reads-share-once {head = head} p q =
     let b = judged-told n q in
     let t = judges-share-once (a .0) (b .0) in
     (t .0, a .1 ∙ sym (b .1), t .1))
-    (eq-or-ne (length head) 6)
+    (eq-or-ne (length head) 7)
 
 -- one number of bytes can stand
 pub good-bytes-once :

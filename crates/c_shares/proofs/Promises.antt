@@ -8,7 +8,7 @@ use Rattle.group.specs.Answers.{refusalNumber}
 use Rattle.layout.specs.Judgment.{IsShare}
 use Rattle.layout.proofs.Judgments.{cut-is-beginning}
 use Rattle.heads.specs.Heads.{heads}
-use Rattle.heads.proofs.Kind1Laws.{lawful}
+use Rattle.heads.proofs.HeadLaws.{lawful}
 use Rattle.judging.specs.Judging.{Judges}
 use Rattle.c_shares.specs.Shares.{TellsJudgment, JudgesShare, ReadsShare}
 use Rattle.c_shares.proofs.Outcomes.{judges-share-once, reads-share-once}

@@ -13,7 +13,7 @@ use Rattle.judging.specs.declared.Judgment.{Judgment}
 use Rattle.judging.specs.Judging.{outcomeOf}
 use Rattle.share.specs.Calls.{Writes}
 use Rattle.c_answers.specs.Exports.{Fills}
-use Rattle.c_shares.specs.Shares.{six, TellsJudgment}
+use Rattle.c_shares.specs.Shares.{seven, TellsJudgment}
 
 pub wrote-of :
     (h : Head) (letters before after : List ℕ) (q : ℕ) (a : Answer) (r : ℕ) → Writes h letters before q a after → r ≡ numberOf a
@@ -22,10 +22,10 @@ wrote-of h letters before after q a r done e = record { returned = e ∙ done .a
 
 -- a judgment, by its case
 module _ (head : List ℕ) (j : Judgment) where
-  pub told-share : (h : Head) (after : List ℕ) → j ≡ Judgment.Complete h → length head ≡ 6 → after ≡ six h → TellsJudgment head (outcomeOf j) 0 after
+  pub told-share : (h : Head) (after : List ℕ) → j ≡ Judgment.Complete h → length head ≡ 7 → after ≡ seven h → TellsJudgment head (outcomeOf j) 0 after
   told-share h after e fits put = rw e (rw put (TellsJudgment.complete h fits))
 
-  pub told-misfit : (h : Head) → j ≡ Judgment.Complete h → (length head ≡ 6 → ⊥) → TellsJudgment head (outcomeOf j) 6 head
+  pub told-misfit : (h : Head) → j ≡ Judgment.Complete h → (length head ≡ 7 → ⊥) → TellsJudgment head (outcomeOf j) 6 head
   told-misfit h e n = rw e (TellsJudgment.misfit h n)
 
   pub told-refused : (r : Refusal) (n : ℕ) → j ≡ Judgment.Refused r → n ≡ refusalNumber r → TellsJudgment head (outcomeOf j) n head

@@ -3,13 +3,13 @@ use heads::Head;
 use share::Judgment;
 ghost use mathlib.Core.Path.{_≡_};
 ghost use lib.ListN.{length};
-ghost use Rattle.share.specs.Calls.{writeRefusal, headFor};
+ghost use Rattle.share.specs.Calls.{writeRefusal, headFor, previewHead};
 ghost use Rattle.heads.specs.Heads.{heads};
 ghost use Rattle.layout.specs.Share.{shareOf};
 ghost use Rattle.group.specs.Ranges.{groupOf};
 ghost use Rattle.judging.specs.Judging.{outcomeOf};
 ghost use Rattle.c_answers.specs.Exports.{Fills};
-ghost use Rattle.c_shares.specs.Shares.{six, TellsJudgment, JudgesShare, ReadsShare, TellsGoodBytes};
+ghost use Rattle.c_shares.specs.Shares.{seven, TellsJudgment, JudgesShare, ReadsShare, TellsGoodBytes};
 
 // A node's packets as a share. Refusals: 1, 2, 3, 5 for the packets, 6 for the share.
 #[no_mangle]
@@ -29,10 +29,27 @@ pub extern "C" fn dulvaspen_write_share(
     group::answer_number(share::write(g, node, batch, packets, share))
 }
 
-// Puts a head's six numbers.
+// A node's packet of previews as a share. Refusals: 1, 2, 3, 5 for the packet, 6 for the share.
+#[no_mangle]
+pub extern "C" fn dulvaspen_preview_write_share(
+    n: usize,
+    k: usize,
+    l: usize,
+    node: usize,
+    batch: u32,
+    packet: &[u8],
+    share: &mut [u8],
+) -> usize
+    ensures { λ r. ⌜ Fills (writeRefusal (previewHead (groupOf n k 0 l) node batch) (length (now (packet .entry))) (length (now (share .entry)))) (shareOf heads (previewHead (groupOf n k 0 l) node batch) (now (packet .entry))) (now (share .entry)) (now (share .exit)) r ⌝ }
+{
+    let g = group::of(n, k, 0, l);
+    group::answer_number(share::write_preview(g, node, batch, packet, share))
+}
+
+// Puts a head's seven numbers.
 pub fn put_head(head: Head, into: &mut [usize])
-    requires { ⌜ length (now into) ≡ 6 ⌝ }
-    ensures { λ r. ⌜ now (into .exit) ≡ six head ⌝ }
+    requires { ⌜ length (now into) ≡ 7 ⌝ }
+    ensures { λ r. ⌜ now (into .exit) ≡ seven head ⌝ }
 {
     into[0] = head.group.n;
     into[1] = head.group.k;
@@ -40,15 +57,16 @@ pub fn put_head(head: Head, into: &mut [usize])
     into[3] = head.node;
     into[4] = head.group.l;
     into[5] = head.batch as usize;
+    into[6] = head.kind;
 }
 
-// Tells a judgment: its number, and a share's head where there is room for six numbers, else 6.
+// Tells a judgment: its number, and a share's head where there is room for seven numbers, else 6.
 pub fn put_judgment(judgment: Judgment, head: &mut [usize]) -> usize
     ensures { λ r. ⌜ TellsJudgment (now (head .entry)) (outcomeOf judgment) r (now (head .exit)) ⌝ }
 {
     match judgment {
         Judgment::Complete(found) => {
-            if head.len() != 6 {
+            if head.len() != 7 {
                 return 6;
             }
             put_head(found, head);
@@ -59,7 +77,7 @@ pub fn put_judgment(judgment: Judgment, head: &mut [usize]) -> usize
     }
 }
 
-// What bytes are, without copying letters. Refusals: 7 to 12, and then 6 for a head that has not six numbers.
+// What bytes are, without copying letters. Refusals: 7 to 12, and then 6 for a head that has not seven numbers.
 #[no_mangle]
 pub extern "C" fn dulvaspen_judge_share(share: &[u8], head: &mut [usize]) -> usize
     ensures { λ r. ⌜ JudgesShare (now (share .entry)) (now (head .entry)) r (now (head .exit)) ⌝ }
@@ -67,7 +85,7 @@ pub extern "C" fn dulvaspen_judge_share(share: &[u8], head: &mut [usize]) -> usi
     put_judgment(share::judge(share), head)
 }
 
-// A share's letters and its head. Refusals: 7 to 12, and then 6 for packets of another length than T, or a head that has not six numbers.
+// A share's letters and its head. Refusals: 7 to 12, and then 6 for packets of another length than T, or a head that has not seven numbers.
 #[no_mangle]
 pub extern "C" fn dulvaspen_read_share(
     share: &[u8],
@@ -76,7 +94,7 @@ pub extern "C" fn dulvaspen_read_share(
 ) -> usize
     ensures { λ r. ⌜ ReadsShare (now (share .entry)) (now (packets .entry)) (now (head .entry)) r (now (packets .exit)) (now (head .exit)) ⌝ }
 {
-    if head.len() != 6 {
+    if head.len() != 7 {
         return put_judgment(share::judge(share), head);
     }
     put_judgment(share::read(share, packets), head)

@@ -5,13 +5,14 @@ use Prim.Native.Nat.{ℕ}
 use Rattle.group.specs.Answers.{Outcome}
 use Rattle.shifts.specs.Rule.{t}
 use Rattle.lengths.specs.Lengths.{nodeLetters}
+use Rattle.kinds.specs.Kinds.{rowOf}
 use Rattle.heads.specs.declared.Head.{Head}
 use Rattle.text.specs.Text.{places, decimal}
 use Rattle.verdict.specs.Line.{lineFor}
 
 -- [3,2,2], L = 1, node 1, batch 7
 abbrev ninth : Head
-ninth = record { group = record { n = 3; k = 2; d = 2; l = 1 }; node = 1; batch = 7 }
+ninth = record { group = record { n = 3; k = 2; d = 2; l = 1 }; node = 1; batch = 7; kind = 1 }
 
 -- "complete 3 2 2 node 1 length 1 batch 7 letters 2" and the end of the line
 abbrev wanted : List ℕ
@@ -21,7 +22,7 @@ wanted =
     32 ∷ 50 ∷ 10 ∷ []
 
 pub ninth-line : lineFor (Outcome.fine ninth) ≡ wanted
-unfolding places decimal nodeLetters t
+unfolding places decimal rowOf nodeLetters t
 ninth-line = refl
 
 -- "malformed 9 at 4" and the end of the line

@@ -7,21 +7,18 @@ use lib.ListN.{length, take, drop, length-append}
 use lib.Seq.{take-at}
 use Rattle.io.specs.Counts.{Counts}
 use Rattle.group.specs.declared.Refusal.{Refusal}
-use Rattle.group.specs.Answers.{refusalNumber, ifFine, Outcome}
-use Rattle.lengths.specs.Lengths.{nodeLetters}
-use Rattle.group.proofs.InRange.{of-node}
+use Rattle.group.specs.Answers.{refusalNumber, Outcome}
 use Rattle.heads.specs.declared.Head.{Head}
-use Rattle.heads.specs.Kind1.{kind1Total}
+use Rattle.heads.specs.Heads.{headTotal}
+use Rattle.heads.proofs.HeadLaws.{total-of}
 use Rattle.judging.specs.declared.Judgment.{Judgment}
 use Rattle.judging.specs.Judging.{outcomeOf, Judges}
 use Rattle.text.specs.Text.{Put}
 use Rattle.verdict.specs.Line.{unfinishedLine, completeLine, malformedLine, lineFor, judgmentLine, Line, Told}
 
--- the judgment of some bytes has their line: a share's node is one of its group, so that T is what the head says
+-- the judgment of some bytes has their line: a share's numbers are in range, so that T is what the head says
 pub judged-line : {xs : List ℕ} {j : Outcome Head} → Judges xs j → judgmentLine j ≡ lineFor j
-unfolding kind1Total
-judged-line (Judges.complete h letters s) =
-    ap (λ q. completeLine h (ifFine q (nodeLetters (h .group) (h .node)) 0)) (of-node (h .group) (h .node) (s .allowed .node))
+judged-line (Judges.complete h letters s) = ap (completeLine h) (total-of h (s .allowed))
 judged-line (Judges.unfinished b) = refl
 judged-line (Judges.malformed r q w) = refl
 
@@ -31,7 +28,7 @@ module _ {before after : List ℕ} {r : ℕ} (j : Judgment) where
   put-line k e put = subst (λ k. Put before 0 (judgmentLine (outcomeOf k)) r after) (sym e) put
 
   pub put-complete :
-      (h : Head) (letters : ℕ) → j ≡ Judgment.Complete h → letters ≡ kind1Total h
+      (h : Head) (letters : ℕ) → j ≡ Judgment.Complete h → letters ≡ headTotal h
       → Put before 0 (completeLine h letters) r after → Put before 0 (judgmentLine (outcomeOf j)) r after
   put-complete h letters e t put = put-line (Judgment.Complete h) e (subst (λ n. Put before 0 (completeLine h n) r after) t put)
 

@@ -5,9 +5,9 @@ use Prim.Native.Nat.{ℕ, _≤_, _<_}
 use lib.ListN.{length, drop}
 use Rattle.group.specs.declared.Group.{Group}
 use Rattle.group.specs.Answers.{Outcome}
-use Rattle.lengths.specs.Lengths.{nodeLetters}
+use Rattle.kinds.specs.Kinds.{rowOf}
 use Rattle.heads.specs.declared.Head.{Head}
-use Rattle.heads.specs.Kind1.{kind1Total}
+use Rattle.heads.specs.Heads.{headTotal}
 use Rattle.judging.specs.Judging.{Judges}
 use Rattle.text.specs.Text.{numbered}
 
@@ -80,11 +80,11 @@ lineWith letters (Outcome.refused n) = unfinishedLine
 lineWith letters (Outcome.wrong n q) = malformedLine n q
 
 abbrev pub lineFor : Outcome Head → List ℕ
-lineFor = lineWith (λ h. nodeLetters (h .group) (h .node))
+lineFor = lineWith (λ (h : Head). rowOf (h .kind) .letters (h .group) (h .node))
 
 -- the same for any judgment, those of no bytes too: a head whose numbers are out of range, which no share has, counts no letters
 abbrev pub judgmentLine : Outcome Head → List ℕ
-judgmentLine = lineWith kind1Total
+judgmentLine = lineWith headTotal
 
 -- The line for these bytes: more than 65,536, whatever they are, are too long; others are judged.
 pub data Line (xs : List ℕ) : List ℕ → Type 0 where

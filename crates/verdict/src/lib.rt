@@ -2,7 +2,7 @@
 // it writes the same.
 use group::Group;
 use heads::Head;
-use heads::kind1;
+use heads::bytes as head_bytes;
 use share::Judgment;
 ghost use mathlib.Core.Path.{_≡_};
 ghost use Prim.Native.Nat.{_≤_};
@@ -53,7 +53,7 @@ pub fn judgment_line(judgment: Judgment, line: &mut [u8; 192]) -> usize
     ensures within { λ r. ⌜ Counts r (now (line .exit)) ⌝ }
 {
     match judgment {
-        Judgment::Complete(head) => put_complete(head, kind1::total(head), line),
+        Judgment::Complete(head) => put_complete(head, head_bytes::total(head), line),
         Judgment::Refused(_) => text::put(line, 0, b"unfinished\n"),
         Judgment::Malformed(refusal, at) => put_malformed(group::refusal_number(refusal), at, line),
     }

@@ -1,6 +1,6 @@
 -- `dulvaspen_arriving_start` meets its contract: the state of no bytes is put, if there is room for it.
 use mathlib.Core.Path.{sym, ap, subst, _∙_}
-use Rattle.c_arriving.specs.Arrivals.{eight, StartsWords}
+use Rattle.c_arriving.specs.Arrivals.{nine, StartsWords}
 use borrow.Author.Needs.{needs}
 use Rattle.c_arriving.proofs.dulvaspen_arriving_start.Statement.{statement}
 use Rattle.c_arriving.proofs.dulvaspen_arriving_start.Tie as tie
@@ -18,7 +18,7 @@ same-length : tie.Need-same-length
 same-length c = search needs
 
 returns-2 : tie.Need-returns-2
-returns-2 c = subst (StartsWords (c .before .before .before .before .before .before .before .args .state .now) 0) (sym (c .before .before .put-state .ensures ∙ ap eight (c .before .before .before .before .start .ensures))) (StartsWords.started (c .before .before .before .before .before .if1 .left))
+returns-2 c = subst (StartsWords (c .before .before .before .before .before .before .before .args .state .now) 0) (sym (c .before .before .put-state .ensures ∙ ap nine (c .before .before .before .before .start .ensures))) (StartsWords.started (c .before .before .before .before .before .if1 .left))
 
 pub dulvaspen-arriving-start-spec : {M : Type 1} → statement M
 dulvaspen-arriving-start-spec =

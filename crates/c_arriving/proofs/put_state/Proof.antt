@@ -1,8 +1,8 @@
--- `put_state` meets its contract: eight stores fill eight numbers.
-use native.Mathlib.Omega.{arith}
+-- `put_state` meets its contract: nine stores fill nine numbers.
 use lib.ListN.{length-set}
+use native.Mathlib.Omega.{arith}
 use Rattle.c_answers.proofs.Stores.{all-stored}
-use Rattle.c_arriving.specs.Arrivals.{eight}
+use Rattle.c_arriving.specs.Arrivals.{nine}
 use borrow.Author.Needs.{needs}
 use Rattle.c_arriving.proofs.put_state.Statement.{statement}
 use Rattle.c_arriving.proofs.put_state.Tie as tie
@@ -31,11 +31,14 @@ slice-write-into-7 c = simp length-set (omega arith)
 slice-write-into-8 : tie.Need-slice-write-into-8
 slice-write-into-8 c = simp length-set (omega arith)
 
+slice-write-into-9 : tie.Need-slice-write-into-9
+slice-write-into-9 c = simp length-set (omega arith)
+
 same-length : tie.Need-same-length
 same-length c = search needs
 
 returns : tie.Need-returns
-returns c = all-stored (c .args .into .now) (eight (c .args .state)) (c .pre)
+returns c = let a = c .args in all-stored (a .into .now) (nine (a .state)) (c .pre)
 
 pub put-state-spec : {M : Type 1} → statement M
 put-state-spec =
@@ -49,5 +52,6 @@ put-state-spec =
     slice-write-into-6
     slice-write-into-7
     slice-write-into-8
+    slice-write-into-9
     same-length
     returns)

@@ -1,4 +1,4 @@
--- `dulvaspen_read_share` meets its contract: what it tells is what reading finds, and what judging finds where the head has not six numbers.
+-- `dulvaspen_read_share` meets its contract: what it tells is what reading finds, and what judging finds where the head has not seven numbers.
 use Rattle.c_shares.proofs.Judged.{told-read, told-judged}
 use borrow.Author.Needs.{needs}
 use Rattle.c_shares.proofs.dulvaspen_read_share.Statement.{statement}

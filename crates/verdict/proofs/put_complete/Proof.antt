@@ -1,5 +1,6 @@
 -- `put_complete` meets its contract: the group, then four numbers by name and the end of the line, each put after what stands before it.
 use mathlib.Core.Path.{_∙_}
+use native.Mathlib.Omega.{arith}
 use borrow.Author.Needs.{needs}
 use Rattle.text.proofs.Putting.{then-put}
 use Rattle.verdict.proofs.put_complete.Statement.{statement}
@@ -39,7 +40,7 @@ slice-aggregate-put : tie.Need-slice-aggregate-put
 slice-aggregate-put c = search needs
 
 put-requires : tie.Need-put-requires
-put-requires c κs = search needs
+put-requires c κs = omega (arith, c .before .before .before .before .before .before .before .before .before .before .before .before .before .before .before .before .before .before .before .before .before .before .before .before .before .before .before .before .pre, c .before .before .before .before .put-number4 .ensures .1, c .before .before .before .before .put-number4 .kept .0, c .before .before .before .before .before .before .before .before .before .put-number3 .ensures .1, c .before .before .before .before .before .before .before .before .before .put-number3 .kept .0, c .before .before .before .before .before .before .before .before .before .before .before .before .before .before .before .put-number2 .ensures .1, c .before .before .before .before .before .before .before .before .before .before .before .before .before .before .before .put-number2 .kept .0, c .before .before .before .before .before .before .before .before .before .before .before .before .before .before .before .before .before .before .before .before .put-number .ensures .1, c .before .before .before .before .before .before .before .before .before .before .before .before .before .before .before .before .before .before .before .before .put-number .kept .0, c .before .before .before .before .before .before .before .before .before .before .before .before .before .before .before .before .before .before .before .before .before .before .before .before .before .put-group .ensures .1, c .before .before .before .before .before .before .before .before .before .before .before .before .before .before .before .before .before .before .before .before .before .before .before .before .before .put-group .kept .1 .0)
 
 same-length : tie.Need-same-length
 same-length c =
