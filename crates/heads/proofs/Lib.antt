@@ -1,5 +1,5 @@
--- Kind 1 is lawful, and what that means for its bytes.
-pub mod Kind1Laws
+-- The heads are lawful, and what that means for their bytes.
+pub mod HeadLaws
 pub mod HeadBytes
 pub mod FirstBytes
 pub mod Answers

@@ -1,12 +1,13 @@
-// The heads that a share may have, of kind 1 alone yet: their bytes written, read back and tested.
-pub mod kind1;
+// The heads that a share may have, of any kind in the table of `kinds`: their bytes written, read back and tested.
+pub mod bytes;
 pub mod partly;
 
 use group::Group;
 
-// A share's head: whose letters it holds, and of which batch.
+// A share's head: whose letters it holds, of which batch, and of which kind.
 pub struct Head {
     pub group: Group,
     pub node: usize,
     pub batch: u32,
+    pub kind: usize,
 }

@@ -1,20 +1,28 @@
 // A head of which the first bytes are in, and no more: its numbers are those of these bytes with zeros after them.
 use crate::Head;
-use crate::kind1;
+use crate::bytes as head_bytes;
+use records::numbers;
 ghost use mathlib.Core.Path.{_≡_};
 ghost use mathlib.Core.Bool.{true};
 ghost use mathlib.Core.List.{_++_};
 ghost use mathlib.Core.Logic.{_↔_};
-ghost use Prim.Native.Nat.{_≤_};
+ghost use Prim.Native.Nat.{_≤_, _<_};
 ghost use lib.ListN.{getD, take};
-ghost use Rattle.heads.specs.Kind1.{kind1Size, kind1Record};
-ghost use Rattle.heads.specs.Steps.Partly.{Kind1Fits, Blank, PartlyIn, partlyAt, headAfter};
+ghost use Rattle.kinds.specs.Kinds.{headSize};
+ghost use Rattle.heads.specs.Heads.{headRecord};
+ghost use Rattle.heads.specs.Steps.Partly.{HeadFits, Blank, PartlyIn, partlyAt, headAfter};
+
+// The most bytes that a head has: where L has four.
+const MOST_BYTES: usize = 13;
 
 // Every number has room in its bytes. (A batch number always has.)
 fn fits(head: Head) -> bool
-    ensures { λ r. ⌜ (r ≡ true) ↔ Kind1Fits head ⌝ }
+    ensures { λ r. ⌜ (r ≡ true) ↔ HeadFits head ⌝ }
 {
     let g = head.group;
+    if 255 < head.kind {
+        return false;
+    }
     if 255 < g.n {
         return false;
     }
@@ -27,18 +35,18 @@ fn fits(head: Head) -> bool
     if 255 < head.node {
         return false;
     }
-    g.l < 65536
+    numbers::has_room(g.l, head_bytes::length_bytes(head.kind))
 }
 
 // The byte at an offset is as it is where so many bytes are in.
 fn byte_fits(head: Head, at: usize, offset: usize) -> bool
-    requires { ⌜ Kind1Fits head ⌝ }
+    requires { ⌜ (HeadFits head) × (offset < headSize (head .kind)) ⌝ }
     ensures { λ r. ⌜ r ≡ partlyAt head at offset ⌝ }
 {
     if offset < at {
-        return kind1::head_stands(head, offset, kind1::KIND);
+        return head_bytes::head_stands(head, offset);
     }
-    kind1::head_byte(head, offset) == 0
+    head_bytes::head_byte(head, offset) == 0
 }
 
 // No number is in.
@@ -46,6 +54,9 @@ fn blank(head: Head) -> bool
     ensures { λ r. ⌜ (r ≡ true) ↔ Blank head ⌝ }
 {
     let g = head.group;
+    if head.kind != 0 {
+        return false;
+    }
     if g.n != 0 {
         return false;
     }
@@ -74,8 +85,9 @@ pub fn partly_in(head: Head, at: usize) -> bool
     if !fits(head) {
         return false;
     }
-    let mut offset = 1;
-    while offset < kind1::SIZE {
+    let size = kinds::head_size(head.kind);
+    let mut offset = 0;
+    while offset < size {
         if !byte_fits(head, at, offset) {
             return false;
         }
@@ -86,11 +98,11 @@ pub fn partly_in(head: Head, at: usize) -> bool
 
 // The byte at an offset once these bytes have come after the first `at`; past them it counts as 0.
 fn byte_after(head: Head, at: usize, bytes: &[u8], offset: usize) -> u8
-    requires { ⌜ Kind1Fits head × (at ≤ kind1Size) ⌝ }
-    ensures { λ r. ⌜ r ≡ getD (take at (kind1Record head) ++ now (bytes .entry)) offset 0 ⌝ }
+    requires { ⌜ (HeadFits head) × (at ≤ headSize (head .kind)) ⌝ }
+    ensures { λ r. ⌜ r ≡ getD (take at (headRecord head) ++ now (bytes .entry)) offset 0 ⌝ }
 {
     if offset < at {
-        return kind1::head_byte(head, offset);
+        return head_bytes::head_byte(head, offset);
     }
     let i = offset - at;
     if i < bytes.len() {
@@ -99,16 +111,17 @@ fn byte_after(head: Head, at: usize, bytes: &[u8], offset: usize) -> u8
     0
 }
 
-// The head once these bytes have come after its first `at`.
+// The head once these bytes have come after its first `at`, of which there are some.
 pub fn head_after(head: Head, at: usize, bytes: &[u8]) -> Head
-    requires { ⌜ Kind1Fits head × (at ≤ kind1Size) ⌝ }
+    requires { ⌜ (HeadFits head) × (1 ≤ at) × (at ≤ headSize (head .kind)) ⌝ }
     ensures { λ r. ⌜ r ≡ headAfter head at (now (bytes .entry)) ⌝ }
 {
-    let mut first = [0u8; kind1::SIZE];
-    let mut offset = 0;
-    while offset < kind1::SIZE {
-        first[offset] = byte_after(head, at, bytes, offset);
-        offset += 1;
+    let size = kinds::head_size(head.kind);
+    let mut first = [0u8; MOST_BYTES];
+    let mut next = 0;
+    while next < size {
+        first[next] = byte_after(head, at, bytes, next);
+        next += 1;
     }
-    kind1::head_in(&first)
+    head_bytes::head_in(&first)
 }

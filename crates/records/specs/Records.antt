@@ -1,7 +1,7 @@
 -- The records of a share that follow its head: the letters in blocks, and the end.
 use mathlib.Core.List.{List, [], _∷_, _++_}
 use Prim.Native.Nat.{ℕ, zero, suc, _+_, _-_, _*_, _/_, _%_, _^_}
-use lib.ListN.{length, take, drop, replicate}
+use lib.ListN.{length, getD, take, drop, replicate}
 
 -- their kinds
 abbrev pub kindFull : ℕ
@@ -43,6 +43,11 @@ sizeFor head letters = head + blocks letters * blockSize + endSize
 abbrev pub number : ℕ → ℕ → List ℕ
 number zero x = []
 number (suc size) x = x % 256 ∷ number size (x / 256)
+
+-- the number of so many bytes from an index on, least byte first; a byte that isn't there counts as 0
+abbrev pub numberIn : ℕ → ℕ → List ℕ → ℕ
+numberIn zero at xs = 0
+numberIn (suc size) at xs = getD xs at 0 + 256 * numberIn size (suc at) xs
 
 -- the number of two or four bytes
 abbrev pub pair : ℕ → ℕ → ℕ

@@ -1,8 +1,10 @@
 // Numbers as bytes, the least one first.
 ghost use mathlib.Core.Path.{_≡_};
-ghost use Prim.Native.Nat.{_%_, _<_};
+ghost use mathlib.Core.Bool.{true};
+ghost use mathlib.Core.Logic.{_↔_};
+ghost use Prim.Native.Nat.{ℕ, _%_, _^_, _≤_, _<_};
 ghost use lib.ListN.{getD};
-ghost use Rattle.records.specs.Records.{pair, four};
+ghost use Rattle.records.specs.Records.{blockSize, number, numberIn};
 
 // The last eight bits of a number.
 pub fn low(x: usize) -> u8
@@ -21,18 +23,42 @@ pub fn byte_at(share: &[u8], i: usize) -> usize
     share[i] as usize
 }
 
-// The number of two bytes, the least one first.
-pub fn pair(low: usize, high: usize) -> usize
-    requires { ⌜ (low < 256) × (high < 256) ⌝ }
-    ensures { λ r. ⌜ r ≡ pair low high ⌝ }
+// The number of so many bytes from an index on, the least one first; a byte that isn't there counts as 0.
+pub fn number_in(share: &[u8], start: usize, size: usize) -> usize
+    requires { ⌜ (start ≤ blockSize) × (size ≤ 4) ⌝ }
+    ensures { λ r. ⌜ (r ≡ numberIn size start (now (share .entry))) × (r < 256 ^ size) ⌝ }
 {
-    low + 256 * high
+    let mut x = 0;
+    let mut i = size;
+    while 0 < i {
+        i -= 1;
+        x = byte_at(share, start + i) + 256 * x;
+    }
+    x
 }
 
-// The number of four bytes, the least one first.
-pub fn four(a: usize, b: usize, c: usize, d: usize) -> u32
-    requires { ⌜ ((a < 256) × (b < 256)) × ((c < 256) × (d < 256)) ⌝ }
-    ensures { λ r. ⌜ r ≡ four a b c d ⌝ }
+// A byte of a number, from the least one on, of as many as it has room in.
+pub fn byte_of(x: usize, nth: usize) -> u8
+    ensures { λ r. ⌜ ((size : ℕ) → nth < size → r ≡ getD (number size x) nth 0) ⌝ }
 {
-    (a + 256 * (b + 256 * (c + 256 * d))) as u32
+    let mut rest = x;
+    let mut i = 0;
+    while i < nth {
+        rest = rest / 256;
+        i += 1;
+    }
+    low(rest)
+}
+
+// A number has room in so many bytes.
+pub fn has_room(x: usize, size: usize) -> bool
+    ensures { λ r. ⌜ (r ≡ true) ↔ (x < 256 ^ size) ⌝ }
+{
+    let mut rest = x;
+    let mut i = 0;
+    while i < size {
+        rest = rest / 256;
+        i += 1;
+    }
+    rest == 0
 }

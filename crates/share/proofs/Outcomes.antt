@@ -11,7 +11,7 @@ use Rattle.heads.specs.declared.Head.{Head}
 use Rattle.judging.specs.declared.Judgment.{Judgment}
 use Rattle.share.specs.Calls.{Reads, Writes}
 use Rattle.heads.specs.Heads.{heads}
-use Rattle.heads.proofs.Kind1Laws.{lawful}
+use Rattle.heads.proofs.HeadLaws.{lawful}
 use Rattle.judging.specs.Judging.{outcomeOf}
 use Rattle.judging.proofs.Outcomes.{same-wrong, outcome-once}
 

@@ -1,24 +1,22 @@
 -- Reading undoes writing, and writing undoes reading: both speak of the same share.
-use mathlib.Core.Path.{_≡_, sym, ap, _∙_}
+use mathlib.Core.Path.{_≡_, sym, ap, ap₂, _∙_}
 use mathlib.Core.List.{List}
 use Prim.Native.Nat.{ℕ, _^_, _<_}
 use lib.ListN.{length}
 use borrow.Author.Tests.{eq-eqb}
 use Rattle.group.specs.declared.Answer.{Answer}
 use Rattle.group.specs.Answers.{ifFine, Outcome}
-use Rattle.group.specs.Ranges.{nodeRefusal}
-use Rattle.lengths.specs.Lengths.{nodeLetters}
-use Rattle.group.proofs.InRange.{node-of, of-node}
 use Rattle.group.proofs.Refusals.{exact-lengths, first-none}
 use Rattle.records.specs.Records.{sizeFor}
 use Rattle.letters.specs.Lanes.{Bytes}
 use Rattle.layout.specs.Share.{shareOf, ShareOf}
 use Rattle.layout.proofs.LaidOut.{share-length}
 use Rattle.heads.specs.declared.Head.{Head}
-use Rattle.heads.specs.Kind1.{kind1Size}
+use Rattle.kinds.specs.Kinds.{rowOf, headSize}
+use Rattle.kinds.proofs.RowLaws.{kind-fine, total-fine}
 use Rattle.heads.specs.Heads.{heads}
-use Rattle.share.specs.Calls.{shareBytes, fitRefusal, writeRefusal, Written, Reads}
-use Rattle.heads.proofs.Kind1Laws.{total-of}
+use Rattle.share.specs.Calls.{kindBytes, headLetters, headBytes, fitRefusal, writeRefusal, Written, Reads}
+use Rattle.heads.proofs.HeadLaws.{record-long, fine-numbers, total-of}
 use Rattle.share.proofs.Outcomes.{same-reading}
 
 -- what a call that isn't refused writes is a share
@@ -28,13 +26,12 @@ pub written :
     → Written h letters before r after → ShareOf heads h letters after
 unfolding writeRefusal fitRefusal
 written h letters before after r batch bytes e w =
-    let a = first-none (nodeRefusal (h .group) (h .node)) (fitRefusal h (length letters) (length before)) e in
-    let node = node-of (h .group) (h .node) (a .0) in
+    let a = first-none (rowOf (h .kind) .refusal (h .group) (h .node)) (fitRefusal h (length letters) (length before)) e in
     record {
-      allowed = record { node = node; batch = batch };
+      allowed = fine-numbers h batch (a .0);
       count =
-          exact-lengths (length letters) (nodeLetters (h .group) (h .node)) (length before) (shareBytes (h .group) (h .node)) (a .1) .0
-          ∙ sym (total-of h node);
+          exact-lengths (length letters) (headLetters h) (length before) (headBytes h) (a .1) .0
+          ∙ sym (total-fine (h .kind) (h .group) (h .node) (a .0));
       bytes = bytes;
       is = w .held ∙ ap (λ n. ifFine n (shareOf heads h letters) before) e;
     }
@@ -50,15 +47,15 @@ read-after-write h letters before xs buffer after r found batch bytes e w l s =
 
 -- no check refuses to write a share again
 fits : (h : Head) (letters xs : List ℕ) → ShareOf heads h letters xs → writeRefusal h (length letters) (length xs) ≡ 0
-unfolding writeRefusal fitRefusal shareBytes
+unfolding writeRefusal fitRefusal kindBytes
 fits h letters xs s =
-    simp (of-node (h .group) (h .node) (s .allowed .node), eq-eqb (length letters) (nodeLetters (h .group) (h .node)) count, eq-eqb (length xs) (shareBytes (h .group) (h .node)) long)
+    simp (kind-fine (h .kind) (h .group) (h .node) (s .allowed .kind) (s .allowed .numbers), eq-eqb (length letters) (headLetters h) count, eq-eqb (length xs) (headBytes h) long)
   where
-    count : length letters ≡ nodeLetters (h .group) (h .node)
-    count = s .count ∙ total-of h (s .allowed .node)
+    count : length letters ≡ headLetters h
+    count = s .count ∙ total-of h (s .allowed)
 
-    long : length xs ≡ shareBytes (h .group) (h .node)
-    long = ap length (s .is) ∙ share-length heads h letters ∙ ap (sizeFor kind1Size) count
+    long : length xs ≡ headBytes h
+    long = ap length (s .is) ∙ share-length heads h letters ∙ ap₂ sizeFor (record-long h) count
 
 -- what read takes as complete is a share
 pub read-share : {xs before after : List ℕ} {h : Head} → Reads xs before (Outcome.fine h) after → ShareOf heads h after xs

@@ -1,7 +1,7 @@
 // Reading a share: the letters.
 use group::Refusal;
 use heads::Head;
-use heads::kind1;
+use heads::bytes as head_bytes;
 use judging::Judgment;
 use layout::reading;
 ghost use Rattle.layout.specs.Judgment.{IsShareOf};
@@ -14,9 +14,9 @@ pub fn fitting(share: &[u8], packets: &mut [u8], head: Head) -> Judgment
     requires { ⌜ IsShareOf heads head (now share) ⌝ }
     ensures { λ r. ⌜ Reads (now (share .entry)) (now (packets .entry)) (outcomeOf r) (now (packets .exit)) ⌝ }
 {
-    if packets.len() != kind1::total(head) {
+    if packets.len() != head_bytes::total(head) {
         return Judgment::Refused(Refusal::Output);
     }
-    reading::copy_letters(kind1::SIZE, share, packets);
+    reading::copy_letters(kinds::head_size(head.kind), share, packets);
     Judgment::Complete(head)
 }

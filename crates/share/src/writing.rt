@@ -3,38 +3,38 @@ use group::Answer;
 use group::Check;
 use group::checks;
 use heads::Head;
-use heads::kind1;
+use heads::bytes as head_bytes;
 use layout::writing;
-use lengths::known;
 use records::sizes;
 ghost use mathlib.Core.Path.{_≡_};
 ghost use Prim.Native.Nat.{_<_};
 ghost use lib.ListN.{length};
-ghost use Rattle.group.specs.Ranges.{NodeOf};
 ghost use Rattle.records.specs.Records.{totalLimit, sizeFor};
 ghost use Rattle.layout.specs.Share.{shareOf};
-ghost use Rattle.heads.specs.Kind1.{kind1Size};
+ghost use Rattle.kinds.specs.Kinds.{rowOf, headSize};
+ghost use Rattle.heads.specs.Steps.Partly.{HeadFits};
 ghost use Rattle.heads.specs.Heads.{heads};
 ghost use Rattle.share.specs.Calls.{Writes, fitRefusal};
 
 // Writes the share of this head and these letters into a buffer of its exact length, from its front to its back.
 fn fill(head: Head, packets: &[u8], share: &mut [u8])
-    requires { ⌜ (NodeOf (head .group) (head .node)) × (length (now packets) < totalLimit) × (length (now share) ≡ sizeFor kind1Size (length (now packets))) ⌝ }
+    requires { ⌜ (HeadFits head) × (length (now packets) < totalLimit) × (length (now share) ≡ sizeFor (headSize (head .kind)) (length (now packets))) ⌝ }
     ensures { λ _. ⌜ now (share .exit) ≡ shareOf heads head (now (packets .entry)) ⌝ }
 {
-    kind1::put_head(head, share);
-    writing::put_full_blocks(kind1::SIZE, packets, share);
-    writing::put_last_block(kind1::SIZE, packets, share);
-    writing::put_end(kind1::SIZE, packets.len(), share);
+    let front = kinds::head_size(head.kind);
+    head_bytes::put_head(head, share);
+    writing::put_full_blocks(front, packets, share);
+    writing::put_last_block(front, packets, share);
+    writing::put_end(front, packets.len(), share);
 }
 
-// Writes a share of a node in range: refusals 5 and 6.
+// Writes a share whose head's numbers are in range: refusals 5 and 6.
 pub fn fitting(head: Head, packets: &[u8], share: &mut [u8]) -> Answer
-    requires { ⌜ NodeOf (head .group) (head .node) ⌝ }
+    requires { ⌜ rowOf (head .kind) .refusal (head .group) (head .node) ≡ 0 ⌝ }
     ensures { λ r. ⌜ Writes head (now (packets .entry)) (now (share .entry)) (fitRefusal head (length (now (packets .entry))) (length (now (share .entry)))) r (now (share .exit)) ⌝ }
 {
-    let letters = known::node(head.group, head.node);
-    let bytes = sizes::size_for(kind1::SIZE, letters);
+    let letters = head_bytes::total(head);
+    let bytes = sizes::size_for(kinds::head_size(head.kind), letters);
     match checks::lengths(packets.len(), letters, share.len(), bytes) {
         Check::Refused(refusal) => Answer::Refused(refusal),
         Check::Fine => {

@@ -1,5 +1,6 @@
 -- `partly::byte_after` meets its contract: the first bytes are the head's own, and those that came stand after them.
 use mathlib.Core.Path.{sym, _∙_}
+use native.Mathlib.Omega.{arith}
 use lib.ListN.{List·getD-eq-default}
 use Rattle.heads.proofs.FirstBytes.{first-at, later-at}
 use borrow.Author.Needs.{needs}
@@ -7,7 +8,7 @@ use Rattle.heads.proofs.partly.byte_after.Statement.{statement}
 use Rattle.heads.proofs.partly.byte_after.Tie as tie
 
 head-byte-requires : tie.Need-head-byte-requires
-head-byte-requires c κs = search needs
+head-byte-requires c κs = (c .before .before .pre .0, omega arith)
 
 returns : tie.Need-returns
 returns c = let s = c .before .before .before in c .head-byte .ensures ∙ sym (first-at (s .args .head) (s .args .at) (s .pre .1) _ _ (c .before .if1 .taken))

@@ -1,11 +1,11 @@
 -- `writing::fill` meets its contract: the four parts are laid one after another, and no byte is left.
-use mathlib.Core.Path.{refl}
-use Rattle.layout.proofs.FromParts.{share-laid}
-use Rattle.heads.specs.Kind1.{kind1Size}
-use Rattle.heads.specs.Heads.{heads}
+use Rattle.share.proofs.Written.{laid-share}
 use borrow.Author.Needs.{needs}
 use Rattle.share.proofs.writing.fill.Statement.{statement}
 use Rattle.share.proofs.writing.fill.Tie as tie
+
+head-size-requires : tie.Need-head-size-requires
+head-size-requires c κs = search needs
 
 put-head-requires : tie.Need-put-head-requires
 put-head-requires c κs = search needs
@@ -23,14 +23,14 @@ same-length : tie.Need-same-length
 same-length c = search needs
 
 returns : tie.Need-returns
-returns c =
-    let s = c .before .before .before .before .before .before .before .before .before .before .before .before .before .before .before .before .before .before in
-    share-laid heads (s .args .head) (s .args .packets .now) kind1Size refl (s .args .share .now) _ _ _ _ (s .pre .2) (c .before .before .before .before .before .before .before .before .before .before .before .before .before .before .put-head .ensures) (c .before .before .before .before .before .before .before .before .before .before .put-full-blocks .ensures) (c .before .before .before .before .before .before .put-last-block .ensures) (c .before .before .put-end .ensures)
+returns c = let s = c .before .before .before .before .before .before .before .before .before .before .before .before .before .before .before .before .before .before .before in
+    laid-share (s .args .head) (s .args .packets .now) _ (c .before .before .before .before .before .before .before .before .before .before .before .before .before .before .before .before .head-size .ensures) (s .args .share .now) _ _ _ _ (s .pre .2) (c .before .before .before .before .before .before .before .before .before .before .before .before .before .before .put-head .ensures) (c .before .before .before .before .before .before .before .before .before .before .put-full-blocks .ensures) (c .before .before .before .before .before .before .put-last-block .ensures) (c .before .before .put-end .ensures)
 
 pub fill-spec : {M : Type 1} → statement M
 fill-spec =
     tie.close
     (tie.spec
+    head-size-requires
     put-head-requires
     put-full-blocks-requires
     put-last-block-requires

@@ -1,0 +1,97 @@
+-- The table of kinds: what each kind of head says of its numbers, and how many letters its shares have (documents 01 and 02; docs/SCHEME.md, 9).
+-- The body of every kind is n, k, d, node, one byte each, L, and the batch, four bytes. A later kind is a row more.
+use mathlib.Core.Bool.{Bool, cond}
+use Prim.Native.Nat.{ℕ, _+_, _-_, _≤_}
+use lib.Dec.{eqb}
+use Rattle.letters.specs.Places.{either}
+use Rattle.group.specs.declared.Group.{Group}
+use Rattle.group.specs.Answers.{ifFine}
+use Rattle.group.specs.Ranges.{mostNodes, longest, nodeRefusal}
+use Rattle.lengths.specs.Lengths.{nodeLetters}
+use Rattle.preview_numbers.specs.Previews.{longestPreview, previewNodeRefusal, previewPacket}
+
+-- What a kind says. That n is 3 to 16, k at least 2 and the node one of 1..n is so in all of them.
+pub record Row : Type 0 where
+  -- the most k, by n
+  pub mostK : ℕ → ℕ
+  -- the least and the most d, by n and k
+  pub leastD : ℕ → ℕ → ℕ
+  pub mostD : ℕ → ℕ → ℕ
+  -- the bytes of L in the body, and its range
+  pub lengthBytes : ℕ
+  pub leastL : ℕ
+  pub mostL : ℕ
+  -- the refusals 1, 2 and 3 of a node with these numbers, and T, the letters that it holds
+  pub refusal : Group → ℕ → ℕ
+  pub letters : Group → ℕ → ℕ
+
+-- Kind 1, the packets of the repairing code: k <= d <= n-1, L of two bytes, T = d(L + t(i,d)).
+abbrev pub repairing : Row
+repairing =
+    record {
+      mostK = λ n. n - 1;
+      leastD = λ n k. k;
+      mostD = λ n k. n - 1;
+      lengthBytes = 2;
+      leastL = 1;
+      mostL = longest;
+      refusal = nodeRefusal;
+      letters = nodeLetters;
+    }
+
+-- Kind 5, a packet of previews: k <= n, d is 0, L of two bytes, T = L + t(i,k) by the previews' rule.
+abbrev pub previews : Row
+previews =
+    record {
+      mostK = λ n. n;
+      leastD = λ n k. 0;
+      mostD = λ n k. 0;
+      lengthBytes = 2;
+      leastL = 1;
+      mostL = longestPreview;
+      refusal = previewNodeRefusal;
+      letters = previewPacket;
+    }
+
+-- a number that is no kind: no share has it, and it refuses everything
+abbrev pub noKind : Row
+noKind =
+    record {
+      mostK = λ n. n - 1;
+      leastD = λ n k. k;
+      mostD = λ n k. n - 1;
+      lengthBytes = 2;
+      leastL = 1;
+      mostL = longest;
+      refusal = λ g i. 1;
+      letters = λ g i. 1;
+    }
+
+-- the table
+unfoldable pub rowOf : ℕ → Row
+rowOf kind = cond (eqb kind 1) repairing (cond (eqb kind 5) previews noKind)
+
+-- the kinds of head that there are
+unfoldable pub isKind : ℕ → Bool
+isKind kind = either (eqb kind 1) (eqb kind 5)
+
+-- The numbers of a head are in the ranges of a row.
+pub record InRow (row : Row) (g : Group) (i : ℕ) : Type 0 where
+  pub n-low : 3 ≤ g .n
+  pub n-high : g .n ≤ mostNodes
+  pub k-low : 2 ≤ g .k
+  pub k-high : g .k ≤ row .mostK (g .n)
+  pub d-low : row .leastD (g .n) (g .k) ≤ g .d
+  pub d-high : g .d ≤ row .mostD (g .n) (g .k)
+  pub node-low : 1 ≤ i
+  pub node-high : i ≤ g .n
+  pub l-low : row .leastL ≤ g .l
+  pub l-high : g .l ≤ row .mostL
+
+-- T by the numbers of a head of this row; 0 where they are refused
+abbrev pub rowTotal : Row → Group → ℕ → ℕ
+rowTotal row g i = ifFine (row .refusal g i) (row .letters g i) 0
+
+-- the bytes of a head of this kind: the kind, n, k, d, node, L, and the batch
+unfoldable pub headSize : ℕ → ℕ
+headSize kind = 5 + rowOf kind .lengthBytes + 4

@@ -1,0 +1,109 @@
+// The kinds of head that a share may have, as rows of one table: the ranges of a kind's numbers, the bytes of its L, and its T. A later kind is a
+// row more, here and in specs/Kinds.antt.
+mod totals;
+
+use group::Check;
+use group::Group;
+use group::Refusal;
+use group::checks;
+use preview_numbers::checks as previews;
+ghost use mathlib.Core.Path.{_≡_};
+ghost use Prim.Native.Nat.{_-_};
+ghost use Rattle.group.specs.Answers.{checkNumber};
+ghost use Rattle.kinds.specs.Kinds.{isKind, rowOf, rowTotal, headSize};
+ghost use Rattle.kinds.specs.Steps.Rows.{limitsAt};
+
+// A node's packets of the repairing code.
+pub const REPAIRING: usize = 1;
+
+// A node's packet of previews.
+pub const PREVIEWS: usize = 5;
+
+// What a kind says of k, d and L, where n and k are known: the most k, the range of d, the bytes of L in the body, and the range of L.
+pub struct Limits {
+    pub most_k: usize,
+    pub least_d: usize,
+    pub most_d: usize,
+    pub length_bytes: usize,
+    pub least_l: usize,
+    pub most_l: usize,
+}
+
+// A head of this kind there is.
+pub fn is_kind(kind: usize) -> bool
+    ensures { λ r. ⌜ r ≡ isKind kind ⌝ }
+{
+    if kind == REPAIRING {
+        return true;
+    }
+    kind == PREVIEWS
+}
+
+// One less, and 0 for 0.
+fn less_one(x: usize) -> usize
+    ensures { λ r. ⌜ r ≡ x - 1 ⌝ }
+{
+    if x == 0 {
+        return 0;
+    }
+    x - 1
+}
+
+// The ranges of a kind. What is no kind has those of kind 1: no byte of it is looked at.
+pub fn limits_of(kind: usize, n: usize, k: usize) -> Limits
+    ensures { λ r. ⌜ r ≡ limitsAt kind n k ⌝ }
+{
+    if kind == PREVIEWS {
+        return Limits {
+            most_k: n,
+            least_d: 0,
+            most_d: 0,
+            length_bytes: 2,
+            least_l: 1,
+            most_l: previews::LONGEST_PREVIEW,
+        };
+    }
+    let most = less_one(n);
+    Limits {
+        most_k: most,
+        least_d: k,
+        most_d: most,
+        length_bytes: 2,
+        least_l: 1,
+        most_l: checks::LONGEST,
+    }
+}
+
+// The bytes of a head of this kind, the kind included.
+pub fn head_size(kind: usize) -> usize
+    ensures { λ r. ⌜ r ≡ headSize kind ⌝ }
+{
+    let row = limits_of(kind, 0, 0);
+    5 + row.length_bytes + 4
+}
+
+// A node with these numbers, by the ranges of its kind: refusals 1, 2 and 3.
+pub fn check(kind: usize, g: Group, node: usize) -> Check
+    ensures { λ r. ⌜ checkNumber r ≡ rowOf kind .refusal g node ⌝ }
+{
+    if kind == REPAIRING {
+        return checks::node(g, node);
+    }
+    if kind == PREVIEWS {
+        return previews::node(g, node);
+    }
+    Check::Refused(Refusal::Numbers)
+}
+
+// T, the letters of a share with these numbers; 0 where they are out of range, or where this is no kind.
+pub fn total(kind: usize, g: Group, node: usize) -> usize
+    ensures { λ r. ⌜ r ≡ rowTotal (rowOf kind) g node ⌝ }
+{
+    if kind == REPAIRING {
+        return totals::repairing(g, node);
+    }
+    if kind == PREVIEWS {
+        return totals::previews(g, node);
+    }
+    0
+}
