@@ -7,20 +7,24 @@ ghost use lib.Dec.{eqb};
 ghost use Rattle.group.specs.Answers.{checkNumber, first, unless, refusalNumber};
 ghost use Rattle.group.specs.Ranges.{between, groupRefusal, nodeRefusal, idRefusal, numbersInRange, lengthInRange};
 
+// A number is one of low..high.
+pub fn is_between(low: usize, high: usize, number: usize) -> bool
+    ensures { λ r. ⌜ r ≡ between low high number ⌝ }
+{
+    if number < low {
+        return false;
+    }
+    number <= high
+}
+
 // n is 3 to 16, and 2 <= k <= d <= n-1.
 pub fn numbers_in_range(g: Group) -> bool
     ensures { λ r. ⌜ r ≡ numbersInRange g ⌝ }
 {
-    if g.n < 3 {
+    if !is_between(3, 16, g.n) {
         return false;
     }
-    if 16 < g.n {
-        return false;
-    }
-    if g.k < 2 {
-        return false;
-    }
-    if g.d < g.k {
+    if !is_between(2, g.d, g.k) {
         return false;
     }
     g.d <= g.n - 1
@@ -33,10 +37,7 @@ pub const LONGEST: usize = 4096;
 pub fn length_in_range(g: Group) -> bool
     ensures { λ r. ⌜ r ≡ lengthInRange g ⌝ }
 {
-    if g.l < 1 {
-        return false;
-    }
-    g.l <= LONGEST
+    is_between(1, LONGEST, g.l)
 }
 
 // The group's own numbers: refusals 1 and 2.
@@ -56,13 +57,10 @@ pub fn group(g: Group) -> Check
 pub fn one_of(number: usize, most: usize) -> Check
     ensures { λ r. ⌜ checkNumber r ≡ unless (between 1 most number) 3 ⌝ }
 {
-    if number < 1 {
-        return Check::Refused(Refusal::Ids);
+    if is_between(1, most, number) {
+        return Check::Fine;
     }
-    if most < number {
-        return Check::Refused(Refusal::Ids);
-    }
-    Check::Fine
+    Check::Refused(Refusal::Ids)
 }
 
 // One id: refusal 3.

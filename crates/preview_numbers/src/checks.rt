@@ -10,10 +10,7 @@ ghost use Rattle.preview_numbers.specs.Previews.{previewNumbersInRange, 
 pub fn numbers_in_range(g: Group) -> bool
     ensures { λ r. ⌜ r ≡ previewNumbersInRange g ⌝ }
 {
-    if g.n < 3 {
-        return false;
-    }
-    if 16 < g.n {
+    if !group::checks::is_between(3, 16, g.n) {
         return false;
     }
     if g.k < 2 {
@@ -32,10 +29,7 @@ pub const LONGEST_PREVIEW: usize = 4096;
 pub fn length_in_range(g: Group) -> bool
     ensures { λ r. ⌜ r ≡ previewLengthInRange g ⌝ }
 {
-    if g.l < 1 {
-        return false;
-    }
-    g.l <= LONGEST_PREVIEW
+    group::checks::is_between(1, LONGEST_PREVIEW, g.l)
 }
 
 // The group's own numbers: refusals 1 and 2.

@@ -33,7 +33,7 @@ pub fn shift(node: usize, column: usize) -> usize
 // The shift of `node` at `column` under the previews' rule, by the rule: node 16's is outside the table.
 pub fn preview_shift(node: usize, column: usize) -> usize
     requires { ⌜ (1 ≤ node) × (node ≤ 16) × (1 ≤ column) × (column ≤ 16) ⌝ }
-    ensures { λ r. ⌜ r ≡ previewShift node column ⌝ }
+    ensures { λ r. ⌜ (r ≡ previewShift node column) × (r ≤ 240) ⌝ }
 {
     node * (column - 1)
 }

@@ -16,7 +16,8 @@ mul-result c = let s = c in omega (arith, preview-at-most (s .args .node) (s .ar
 
 returns : tie.Need-returns
 unfolding previewShift
-returns c = refl
+returns c = let s = c in
+    (refl, preview-at-most (s .args .node) (s .args .column) (omega (arith, s .pre)) (omega (arith, s .pre)))
 
 pub preview-shift-spec : {M : Type 1} → statement M
 preview-shift-spec = tie.close (tie.spec sub-result mul-result returns)

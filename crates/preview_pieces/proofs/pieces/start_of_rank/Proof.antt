@@ -25,7 +25,7 @@ returns-2 : tie.Need-returns-2
 unfolding previewPieceRefusal
 returns-2 c = let s = c .before .before .before in
     gives _ _ _ (simp (of-preview-node _ _ (s .pre .0), of-rank (s .args .g) _ (s .pre .1) (s .pre .2), eq-eqb _ _ (c .before .if1 .left ∙ c .before .before .packet .ensures)))
-    (c .preview-shift .ensures)
+    (c .preview-shift .ensures .0)
 
 pub start-of-rank-spec : {M : Type 1} → statement M
 start-of-rank-spec = tie.close (tie.spec packet-requires returns preview-shift-requires returns-2)

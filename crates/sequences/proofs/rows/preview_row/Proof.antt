@@ -37,7 +37,7 @@ loop-less c = omega arith
 
 loop-again : tie.Need-loop-again Inv-loop μ-loop
 loop-again c = let l = c .before .before .loop in
-    (omega arith, simp length-set (l .inv .1), filled-more (l .row) (l .j) _ _ (omega arith) (l .inv .2) (c .preview-shift .ensures))
+    (omega arith, simp length-set (l .inv .1), filled-more (l .row) (l .j) _ _ (omega arith) (l .inv .2) (c .preview-shift .ensures .0))
 
 returns : tie.Need-returns Inv-loop μ-loop
 returns c = let l = c .before .loop in

@@ -48,7 +48,7 @@ loop-less c = omega arith
 
 loop-again : tie.Need-loop-again Inv-loop μ-loop
 loop-again c = let l = c .before .before .before .loop in
-    (l .inv .0, omega arith, simp length-set (l .inv .2), filled-more (l .rows) (l .i) _ _ (omega arith) (l .inv .3) (c .preview-shift .ensures))
+    (l .inv .0, omega arith, simp length-set (l .inv .2), filled-more (l .rows) (l .i) _ _ (omega arith) (l .inv .3) (c .preview-shift .ensures .0))
 
 returns : tie.Need-returns Inv-loop μ-loop
 returns c = let l = c .before .loop in
