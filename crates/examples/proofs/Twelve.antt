@@ -22,7 +22,10 @@ use Rattle.layout.proofs.Judgments.{cut-is-beginning, share-then-more, nothing-
 use Rattle.heads.specs.Heads.{heads}
 use Rattle.share.specs.Calls.{headFor}
 use Rattle.judging.specs.Judging.{WouldStand, Wrong, Judges}
-use Rattle.heads.proofs.Kind1Laws.{lawful, total-of}
+use Rattle.kinds.specs.Kinds.{isKind, rowOf}
+use Rattle.kinds.proofs.RowLaws.{node-repairing}
+use Rattle.heads.specs.Heads.{HeadNumbers}
+use Rattle.heads.proofs.HeadLaws.{lawful, total-of}
 use Rattle.examples.specs.Examples.{AllHold, one, stored, twelve}
 
 -- P9's letters, which are bytes
@@ -51,13 +54,18 @@ in-range =
       high = omega arith;
     }
 
+-- so its head's numbers are in the ranges of kind 1
+allowed : HeadNumbers (headFor one 1 7)
+unfolding isKind rowOf
+allowed = record { kind = refl; numbers = node-repairing one 1 in-range; batch = omega arith }
+
 -- its bytes are their share
 is-share : ShareOf heads (headFor one 1 7) letters stored
-unfolding shareOf blockRecords fullBlocks lastBlock nodeLetters t
+unfolding shareOf blockRecords fullBlocks lastBlock nodeLetters t rowOf
 is-share =
     record {
-      allowed = record { node = in-range; batch = omega arith };
-      count = sym (total-of (headFor one 1 7) in-range);
+      allowed = allowed;
+      count = sym (total-of (headFor one 1 7) allowed);
       bytes = record { below = below };
       is = refl;
     }
@@ -74,6 +82,7 @@ cut any h = Judges.unfinished (cut-is-beginning heads lawful stored 80 some-shar
 
 -- one byte too many stands after the end of the share
 too-many : (any : ℕ) → Wrong (stored ++ (any ∷ [])) AfterEnd 81
+unfolding rowOf
 too-many any =
     record {
       offends =
@@ -96,5 +105,5 @@ nothing any h = Judges.unfinished (nothing-begins heads lawful)
 
 -- P1 to P12
 pub twelve-hold : AllHold twelve
-unfolding AllHold twelve packets reading recoveryCost joined helping equations shareOf blockRecords fullBlocks lastBlock
+unfolding AllHold twelve packets reading recoveryCost joined helping equations shareOf blockRecords fullBlocks lastBlock rowOf
 twelve-hold = (refl, (refl, (refl, ((refl, refl), ((refl, refl), ((refl, refl), ((refl, refl), ((refl, refl), ((refl, refl, judged), (cut, (longer, (nothing, tt))))))))))))

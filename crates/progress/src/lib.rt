@@ -16,11 +16,24 @@ fn percent(part: usize, whole: usize) -> usize {
     part * 100 / whole
 }
 
-// Puts a node and its group: `node 1 of [3,2,2]`.
+// Puts a node and its group of previews.
+fn put_preview_node(node: usize, g: Group, line: &mut [u8]) -> usize
+    requires { ⌜ length (now line) ≡ 256 ⌝ }
+    ensures { λ r. ⌜ r ≤ 92 ⌝ }
+{
+    let of = text::put_number(line, 0, b"previews of node ", node);
+    let n = text::put_number(line, of, b" of [", g.n);
+    text::put_number(line, n, b",", g.k)
+}
+
+// Puts a node and its group: `node 1 of [3,2,2]`; of previews, which have no d, `previews of node 1 of [3,2]`.
 fn put_node(node: usize, g: Group, line: &mut [u8]) -> usize
     requires { ⌜ length (now line) ≡ 256 ⌝ }
     ensures { λ r. ⌜ r ≤ 92 ⌝ }
 {
+    if g.d == 0 {
+        return put_preview_node(node, g, line);
+    }
     let of = text::put_number(line, 0, b"node ", node);
     let n = text::put_number(line, of, b" of [", g.n);
     let k = text::put_number(line, n, b",", g.k);

@@ -44,7 +44,7 @@ use Rattle.layout.specs.Share.{ShareOf}
 use Rattle.layout.proofs.Judgments.{cut-is-beginning}
 use Rattle.heads.specs.declared.Head.{Head}
 use Rattle.heads.specs.Heads.{heads}
-use Rattle.heads.proofs.Kind1Laws.{lawful}
+use Rattle.heads.proofs.HeadLaws.{lawful}
 use Rattle.share.specs.Calls.{Reads, Written}
 use Rattle.judging.specs.Judging.{Judges}
 use Rattle.share.proofs.Outcomes.{same-reading}
