@@ -16,10 +16,10 @@ use Rattle.layout.proofs.Accepted.{stands-with}
 use Rattle.layout.proofs.Completing.{bytes-next}
 use Rattle.layout.proofs.Judgments.{accepted-take, bytes-take, stands-take}
 use Rattle.heads.specs.declared.Head.{Head}
-use Rattle.heads.specs.Kind1.{kind1Size}
+use Rattle.kinds.specs.Kinds.{headSize}
 use Rattle.heads.specs.Heads.{heads}
 use Rattle.heads.specs.Steps.Partly.{headAfter}
-use Rattle.heads.proofs.Kind1Laws.{lawful}
+use Rattle.heads.proofs.HeadLaws.{lawful}
 use Rattle.judging.specs.Steps.Search.{standsAt, Stops, StopsFrom, refusalAt}
 use Rattle.judging.proofs.Joining.{stands-at, joined}
 use Rattle.arriving.specs.declared.Arriving.{Arriving}
@@ -39,11 +39,11 @@ all-stand xs h at s long told =
     ∙ ap₂ (stateWith at) (simp (le-ltb at (length xs) (omega arith))) (ap (heads .headIn) (take-all at xs (omega arith)) ∙ told)
 
 pub one-wrong :
-    (xs : List ℕ) (q : ℕ) (h : Head) → Stops xs q → q < length xs → heads .headIn (take q xs) ≡ h → stateOf xs ≡ stateWith q (numberAt (heads .total h) q) h
+    (xs : List ℕ) (q : ℕ) (h : Head) → Stops xs q → q < length xs → heads .headIn (take q xs) ≡ h → stateOf xs ≡ stateWith q (numberAt (h .kind) (heads .total h) q) h
 one-wrong xs q h s more told =
     state-at xs q s
     ∙ ap (λ w. stateWith q w (heads .headIn (take q xs))) (simp (lt-ltb q (length xs) more))
-    ∙ ap (λ h. stateWith q (numberAt (heads .total h) q) h) told
+    ∙ ap (λ (h : Head). stateWith q (numberAt (h .kind) (heads .total h) q) h) told
 
 -- what is known of bytes that lead to a state: where no byte is wrong,
 pub record AllStand (xs : List ℕ) (s : Arriving) : Type 0 where
@@ -52,7 +52,7 @@ pub record AllStand (xs : List ℕ) (s : Arriving) : Type 0 where
 
 -- and where one is
 pub record OneWrong (xs : List ℕ) (s : Arriving) : Type 0 where
-  pub number : s .wrong ≡ numberAt (heads .total (headSoFar s)) (s .at)
+  pub number : s .wrong ≡ numberAt (s .kind) (heads .total (headSoFar s)) (s .at)
   pub past : s .at < length xs
   pub stops : Stops xs (s .at)
   pub behind : Behind (take (s .at) xs) (headSoFar s) (s .at)
@@ -77,7 +77,7 @@ module _ (xs : List ℕ) (bytes : Bytes xs) where
           ⊎-elim (λ past. omega (arith, good-stops xs .within))
           (λ more.
           absurd
-          (numbered (refusalAt kind1Size (heads .total (heads .headIn (take (goodBytes xs) xs))) (goodBytes xs))
+          (numbered (refusalAt (headSize (heads .headIn (take (goodBytes xs) xs) .kind)) (heads .total (heads .headIn (take (goodBytes xs) xs))) (goodBytes xs))
           (simp (lt-ltb (goodBytes xs) (length xs) more) at none)))
           (le-or-lt (length xs) (goodBytes xs))
 
@@ -135,9 +135,9 @@ module _ (s : Arriving) (led : Leads s) where
 
   pub batch-led : s .batch < 2 ^ 32
   batch-led =
-      ⊎-elim (λ long. numbers-led .whole long .batch) (λ few. omega (arith, numbers-led .partly few .fits .batch)) (le-or-lt kind1Size (s .at))
+      ⊎-elim (λ long. numbers-led .whole long .batch) (λ few. omega (arith, numbers-led .partly few .fits .batch)) (le-or-lt (headSize (s .kind)) (s .at))
 
-  pub wrong-led : (s .wrong ≡ 0 → ⊥) → (s .wrong ≡ numberAt (heads .total (headSoFar s)) (s .at)) × CanBeWrong (headSoFar s) (s .at)
+  pub wrong-led : (s .wrong ≡ 0 → ⊥) → (s .wrong ≡ numberAt (s .kind) (heads .total (headSoFar s)) (s .at)) × CanBeWrong (headSoFar s) (s .at)
   wrong-led some =
       let w = led-wrong (led .0) (led .1) s (led .2) some in
       let xs = led .0 in
@@ -159,7 +159,7 @@ module _ (s : Arriving) (led : Leads s) where
   pub number-small : s .wrong < 256
   number-small =
       ⊎-elim (λ none. omega arith)
-      (λ some. omega (arith, wrong-led some .0, small-number (refusalAt kind1Size (heads .total (headSoFar s)) (s .at)))) (eq-or-ne (s .wrong) 0)
+      (λ some. omega (arith, wrong-led some .0, small-number (refusalAt (headSize (s .kind)) (heads .total (headSoFar s)) (s .at)))) (eq-or-ne (s .wrong) 0)
 
 -- and from the numbers to the bytes
 module _ (s : Arriving) (w : HeadAt (headSoFar s) (s .at)) where
@@ -179,7 +179,7 @@ module _ (s : Arriving) (w : HeadAt (headSoFar s) (s .at)) where
         ∙ ap (λ w. stateWith (s .at) w (headSoFar s)) (sym none),
   )
 
-  pub leads-wrong : s .wrong ≡ numberAt (heads .total (headSoFar s)) (s .at) → CanBeWrong (headSoFar s) (s .at) → Leads s
+  pub leads-wrong : s .wrong ≡ numberAt (s .kind) (heads .total (headSoFar s)) (s .at) → CanBeWrong (headSoFar s) (s .at) → Leads s
   leads-wrong number c =
       let byte = c .0 in
       let xs = zs ++ byte ∷ [] in
@@ -216,6 +216,6 @@ module _ (s : Arriving) (h : Head) (e : h ≡ headSoFar s) where
   led-known w =
       ⊎-elim (known-right (w .numbers))
       (λ number.
-      leads-wrong s (subst (λ h. HeadAt h (s .at)) e (w .numbers)) (number ∙ ap (λ h. numberAt (heads .total h) (s .at)) e)
-      (subst (λ h. CanBeWrong h (s .at)) e (w .byte (λ none. numbered (refusalAt kind1Size (heads .total h) (s .at)) (sym number ∙ none)))))
+      leads-wrong s (subst (λ h. HeadAt h (s .at)) e (w .numbers)) (number ∙ ap (λ (h : Head). numberAt (h .kind) (heads .total h) (s .at)) e)
+      (subst (λ h. CanBeWrong h (s .at)) e (w .byte (λ none. numbered (refusalAt (headSize (h .kind)) (heads .total h) (s .at)) (sym number ∙ none)))))
       (w .number)

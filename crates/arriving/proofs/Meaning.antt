@@ -12,12 +12,11 @@ use Rattle.group.specs.declared.Refusal.{Refusal}
 use Rattle.group.specs.declared.Refusal.the-variants.{Unfinished, Kind}
 use Rattle.group.specs.Answers.{refusalNumber, Outcome}
 use Rattle.group.proofs.Outcomes.{refusal-once}
-use Rattle.layout.specs.Layout.{totalIn}
+use Rattle.layout.specs.Layout.{sizeIn, totalIn}
 use Rattle.layout.proofs.Completing.{bytes-joined}
 use Rattle.layout.specs.Judgment.{IsShareOf, IsBeginning}
 use Rattle.heads.specs.declared.Head.{Head}
-use Rattle.heads.specs.Kind1.{kind1Size}
-use Rattle.heads.specs.Heads.{heads}
+use Rattle.heads.specs.Heads.{headIn, heads}
 use Rattle.judging.specs.Judging.{Wrong, Judges}
 use Rattle.judging.specs.Steps.Search.{refusalAt}
 use Rattle.judging.proofs.WouldStand.{same-refusal, wrong-at, wrong-once}
@@ -64,7 +63,7 @@ malformed-exactly s n q = (from, to)
 
 -- The number in a state is that of what is wrong with the first byte that can't stand.
 pub number-exactly : (xs : List ℕ) → Bytes xs → goodBytes xs < length xs → (r : Refusal) → (stateOf xs .wrong ≡ refusalNumber r) ↔ Wrong xs r (goodBytes xs)
-unfolding stateOf
+unfolding stateOf headIn
 number-exactly xs bytes more r = (
   λ e. subst (λ r. Wrong xs r q) (sym (refusal-once r here (sym e ∙ number))) (wrong-at xs q bytes (stand-to xs bytes q (good-stops xs) .next more)),
   λ w. number ∙ ap refusalNumber (sym (wrong-once xs r q w)),
@@ -74,7 +73,7 @@ number-exactly xs bytes more r = (
     q = goodBytes xs
 
     here : Refusal
-    here = refusalAt kind1Size (totalIn heads xs) q
+    here = refusalAt (sizeIn heads xs) (totalIn heads xs) q
 
     number : stateOf xs .wrong ≡ refusalNumber here
     number = simp (lt-ltb (goodBytes xs) (length xs) more) (ap refusalNumber (same-refusal (take q xs) xs q (λ i l. getD-take q xs i 0 l)))

@@ -9,27 +9,29 @@ use lib.Dec.{eqb}
 use borrow.Author.Tests.{eq-eqb, ne-eqb}
 use Rattle.letters.proofs.Cases.{le-or-lt, eq-or-ne}
 use Rattle.heads.specs.declared.Head.{Head}
-use Rattle.heads.specs.Kind1.{kind1Size}
+use Rattle.kinds.specs.Kinds.{headSize}
+use Rattle.kinds.proofs.RowLaws.{size-small}
 use Rattle.heads.specs.Heads.{heads}
-use Rattle.heads.proofs.Kind1Laws.{total-small, total-some, some-node}
+use Rattle.heads.proofs.HeadLaws.{total-small, total-some, some-numbers}
 use Rattle.judging.specs.Steps.Search.{standsAt, farthest, StopsFrom}
 use Rattle.arriving.specs.Steps.Reaching.{Within, HeadAt}
 
 -- no share is longer than this
 pub near : (h : Head) (at : ℕ) → HeadAt h at → at ≤ farthest
-near h at w = ⊎-elim (λ long. omega (arith, w .share long, total-small h)) (λ few. omega arith) (le-or-lt kind1Size at)
+near h at w =
+    ⊎-elim (λ long. omega (arith, w .share long, total-small h, size-small (h .kind))) (λ few. omega (arith, size-small (h .kind))) (le-or-lt (headSize (h .kind)) at)
 
 -- numbers in range are those that give a share some letters
-pub within-numbers : (h : Head) (at : ℕ) → kind1Size ≤ at → h .batch < 2 ^ 32 → Within (heads .total h) at → HeadAt h at
+pub within-numbers : (h : Head) (at : ℕ) → headSize (h .kind) ≤ at → h .batch < 2 ^ 32 → Within (h .kind) (heads .total h) at → HeadAt h at
 within-numbers h at long small w =
     record {
       partly = λ few. absurd (omega arith);
-      whole = λ l. record { node = some-node h (w .some); batch = small };
+      whole = λ l. some-numbers h small (w .some);
       share = λ l. w .share;
     }
 
-pub numbers-within : (h : Head) (at : ℕ) → kind1Size ≤ at → HeadAt h at → Within (heads .total h) at
-numbers-within h at long w = record { some = total-some h (w .whole long .node); share = w .share long }
+pub numbers-within : (h : Head) (at : ℕ) → headSize (h .kind) ≤ at → HeadAt h at → Within (h .kind) (heads .total h) at
+numbers-within h at long w = record { some = total-some h (w .whole long); share = w .share long }
 
 -- one byte is passed exactly if it stands
 pub passes-one : (at : ℕ) (h : Head) (byte q : ℕ) → StopsFrom at h (byte ∷ []) q → eqb q 1 ≡ standsAt h at byte

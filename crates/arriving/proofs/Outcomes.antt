@@ -11,13 +11,14 @@ use Rattle.letters.proofs.Cases.{eq-or-ne}
 use Rattle.group.specs.Answers.{Outcome}
 use Rattle.group.proofs.Outcomes.{named, named-number}
 use Rattle.records.specs.Records.{sizeFor}
+use Rattle.layout.specs.Layout.{sizeIn}
 use Rattle.layout.specs.Share.{ShareOf}
 use Rattle.layout.specs.Judgment.{CanStand}
 use Rattle.layout.proofs.Judgments.{not-both, offends-not-stand}
 use Rattle.heads.specs.declared.Head.{Head}
-use Rattle.heads.specs.Kind1.{kind1Size}
+use Rattle.kinds.specs.Kinds.{headSize}
 use Rattle.heads.specs.Heads.{heads}
-use Rattle.heads.proofs.Kind1Laws.{lawful}
+use Rattle.heads.proofs.HeadLaws.{lawful, size-told}
 use Rattle.judging.specs.declared.Judgment.{Judgment}
 use Rattle.judging.specs.Judging.{outcomeOf, Judges, CanStandTo}
 use Rattle.judging.specs.Steps.Search.{judgmentAt}
@@ -41,19 +42,20 @@ reached-once s false false a b = refl
 -- Two states are the same or not, so what can't be different is the same.
 same-state : (r r′ : Arriving) → ((r ≡ r′ → ⊥) → ⊥) → r ≡ r′
 same-state r r′ n =
-    alike (field (λ s. s .at)) (field (λ s. s .wrong)) (field (λ s. s .n)) (field (λ s. s .k)) (field (λ s. s .d)) (field (λ s. s .node)) (field (λ s. s .l)) (field (λ s. s .batch))
+    alike (field (λ s. s .at)) (field (λ s. s .wrong)) (field (λ s. s .n)) (field (λ s. s .k)) (field (λ s. s .d)) (field (λ s. s .node)) (field (λ s. s .l)) (field (λ s. s .batch)) (field (λ s. s .kind))
   where
     field : (f : Arriving → ℕ) → f r ≡ f r′
     field f = ⊎-elim (λ e. e) (λ ne. absurd (n (λ e. ne (ap f e)))) (eq-or-ne (f r) (f r′))
 
     alike :
         r .at ≡ r′ .at → r .wrong ≡ r′ .wrong → r .n ≡ r′ .n → r .k ≡ r′ .k → r .d ≡ r′ .d → r .node ≡ r′ .node → r .l ≡ r′ .l → r .batch ≡ r′ .batch
-        → r ≡ r′
-    alike a w n k d i l b =
-        ap₂ (λ at wrong. record { at = at; wrong = wrong; n = r .n; k = r .k; d = r .d; node = r .node; l = r .l; batch = r .batch }) a w
-        ∙ ap₂ (λ n k. record { at = r′ .at; wrong = r′ .wrong; n = n; k = k; d = r .d; node = r .node; l = r .l; batch = r .batch }) n k
-        ∙ ap₂ (λ d node. record { at = r′ .at; wrong = r′ .wrong; n = r′ .n; k = r′ .k; d = d; node = node; l = r .l; batch = r .batch }) d i
-        ∙ ap₂ (λ l batch. record { at = r′ .at; wrong = r′ .wrong; n = r′ .n; k = r′ .k; d = r′ .d; node = r′ .node; l = l; batch = batch }) l b
+        → r .kind ≡ r′ .kind → r ≡ r′
+    alike a w n k d i l b t =
+        ap₂ (λ at wrong. record { at = at; wrong = wrong; n = r .n; k = r .k; d = r .d; node = r .node; l = r .l; batch = r .batch; kind = r .kind }) a w
+        ∙ ap₂ (λ n k. record { at = r′ .at; wrong = r′ .wrong; n = n; k = k; d = r .d; node = r .node; l = r .l; batch = r .batch; kind = r .kind }) n k
+        ∙ ap₂ (λ d node. record { at = r′ .at; wrong = r′ .wrong; n = r′ .n; k = r′ .k; d = d; node = node; l = r .l; batch = r .batch; kind = r .kind }) d i
+        ∙ ap₂ (λ l batch. record { at = r′ .at; wrong = r′ .wrong; n = r′ .n; k = r′ .k; d = r′ .d; node = r′ .node; l = l; batch = batch; kind = r .kind }) l b
+        ∙ ap (λ kind. record { at = r′ .at; wrong = r′ .wrong; n = r′ .n; k = r′ .k; d = r′ .d; node = r′ .node; l = r′ .l; batch = r′ .batch; kind = kind }) t
 
 -- `take` and `after`
 pub taken-once : (s : Arriving) (ys : List ℕ) (r r′ : Arriving) → Takes s ys r → Takes s ys r′ → r ≡ r′
@@ -84,7 +86,7 @@ told-back (Coming.Malformed r q) = ap (λ r. Coming.Malformed r q) (named-number
 -- what is told from a state is told by its numbers, whichever bytes lead there
 module _ (s : Arriving) where
   abbrev told : Judgment
-  told = judgmentAt kind1Size (headSoFar s) (heads .total (headSoFar s)) (s .at) (s .at + s .wrong)
+  told = judgmentAt (headSize (s .kind)) (headSoFar s) (heads .total (headSoFar s)) (s .at) (s .at + s .wrong)
 
   as-told : {r : Outcome Head} (xs : List ℕ) → Bytes xs → stateOf xs ≡ s → Judges xs r → r ≡ outcomeOf told
   as-told xs bytes e j = same-judging j (of-bytes s _ refl told refl xs bytes e)
@@ -123,11 +125,11 @@ module _ (s : Arriving) where
 
   -- and their numbers tell the share that is coming
   known :
-      (xs : List ℕ) → Bytes xs → stateOf xs ≡ s → kind1Size ≤ length xs → (h : Head) (ys letters : List ℕ) → ShareOf heads h letters (xs ++ ys)
-      → (kind1Size ≤ s .at) × (_≡_ {A = Head × ℕ} (h, length (xs ++ ys)) (headSoFar s, sizeFor kind1Size (heads .total (headSoFar s))))
+      (xs : List ℕ) → Bytes xs → stateOf xs ≡ s → sizeIn heads xs ≤ length xs → (h : Head) (ys letters : List ℕ) → ShareOf heads h letters (xs ++ ys)
+      → (headSize (s .kind) ≤ s .at) × (_≡_ {A = Head × ℕ} (h, length (xs ++ ys)) (headSoFar s, sizeFor (headSize (s .kind)) (heads .total (headSoFar s))))
   known xs bytes e long h ys letters share =
       let b = behind xs bytes e (ys, (h, letters, share)) in
-      let many : kind1Size ≤ s .at = omega (arith, b .long) in
+      let many : headSize (s .kind) ≤ s .at = omega (arith, b .long, size-told xs (headSoFar s) _ refl (sym (b .told))) in
       let w = share-told xs s b many h ys letters share in
       (many, ap₂ (λ (h : Head) (n : ℕ). (h, n)) (w .0) (w .1))
 
@@ -135,11 +137,11 @@ module _ (s : Arriving) where
   same-coming (Announces.known xs bytes e long h ys letters share) (Announces.known xs′ bytes′ e′ long′ h′ ys′ letters′ share′) =
       ap Outcome.fine (known xs bytes e long h ys letters share .1 ∙ sym (known xs′ bytes′ e′ long′ h′ ys′ letters′ share′ .1))
   same-coming (Announces.known xs bytes e long h ys letters share) (Announces.early xs′ bytes′ e′ few stand) =
-      absurd (omega (arith, known xs bytes e long h ys letters share .0, behind xs′ bytes′ e′ stand .long))
+      absurd (omega (arith, known xs bytes e long h ys letters share .0, behind xs′ bytes′ e′ stand .long, size-told xs′ (headSoFar s) _ refl (sym (behind xs′ bytes′ e′ stand .told))))
   same-coming (Announces.known xs bytes e long h ys letters share) (Announces.malformed n q j) =
       absurd (not-wrong xs bytes e (ys, (h, letters, share)) j)
   same-coming (Announces.early xs′ bytes′ e′ few stand) (Announces.known xs bytes e long h ys letters share) =
-      absurd (omega (arith, known xs bytes e long h ys letters share .0, behind xs′ bytes′ e′ stand .long))
+      absurd (omega (arith, known xs bytes e long h ys letters share .0, behind xs′ bytes′ e′ stand .long, size-told xs′ (headSoFar s) _ refl (sym (behind xs′ bytes′ e′ stand .told))))
   same-coming (Announces.early xs bytes e few stand) (Announces.early xs′ bytes′ e′ few′ stand′) = refl
   same-coming (Announces.early xs bytes e few stand) (Announces.malformed n q j) = absurd (not-wrong xs bytes e stand j)
   same-coming (Announces.malformed n q j) (Announces.known xs bytes e long h ys letters share) =

@@ -10,7 +10,7 @@ use Rattle.layout.proofs.Accepted.{stands-with}
 use Rattle.heads.specs.declared.Head.{Head}
 use Rattle.heads.specs.Heads.{heads}
 use Rattle.heads.specs.Steps.Partly.{headAfter}
-use Rattle.heads.proofs.Kind1Laws.{lawful}
+use Rattle.heads.proofs.HeadLaws.{lawful}
 use Rattle.judging.specs.Steps.Search.{Stops, StopsFrom}
 use Rattle.arriving.specs.declared.Arriving.{Arriving}
 use Rattle.arriving.specs.States.{numberAt, stateWith, headSoFar, stateOf, Leads}
@@ -58,7 +58,7 @@ module _ (s : Arriving) (ys : List ℕ) (leads : Leads s) (none : s .wrong ≡ 0
 
   pub takes-some :
       q < length ys → (f : Head) → f ≡ headAfter (headSoFar s) (s .at) (take q ys)
-      → Takes s ys (stateWith (s .at + q) (numberAt (heads .total f) (s .at + q)) f)
+      → Takes s ys (stateWith (s .at + q) (numberAt (f .kind) (heads .total f) (s .at + q)) f)
   takes-some less f ef =
       record {
         led =

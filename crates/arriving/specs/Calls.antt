@@ -6,10 +6,10 @@ use lib.ListN.{length}
 use Rattle.letters.specs.Lanes.{Bytes}
 use Rattle.group.specs.declared.Refusal.the-variants.{Unfinished, Kind}
 use Rattle.group.specs.Answers.{refusalNumber, Outcome}
+use Rattle.layout.specs.Layout.{sizeIn}
 use Rattle.layout.specs.Share.{ShareOf}
 use Rattle.layout.specs.Judgment.{CanStand}
 use Rattle.heads.specs.declared.Head.{Head}
-use Rattle.heads.specs.Kind1.{kind1Size}
 use Rattle.heads.specs.Heads.{heads}
 use Rattle.judging.specs.Judging.{Judges, CanStandTo}
 use Rattle.arriving.specs.declared.Arriving.{Arriving}
@@ -41,7 +41,7 @@ comingOf (Coming.Malformed r q) = Outcome.wrong (refusalNumber r) q
 -- judged.
 pub data Announces (s : Arriving) : Outcome (Head × ℕ) → Type 0 where
   known :
-      (xs : List ℕ) → Bytes xs → stateOf xs ≡ s → kind1Size ≤ length xs
+      (xs : List ℕ) → Bytes xs → stateOf xs ≡ s → sizeIn heads xs ≤ length xs
       → (h : Head) (ys letters : List ℕ) → ShareOf heads h letters (xs ++ ys) → Announces s (Outcome.fine (h, length (xs ++ ys)))
-  early : (xs : List ℕ) → Bytes xs → stateOf xs ≡ s → length xs < kind1Size → CanStand heads xs → Announces s (Outcome.refused (refusalNumber Unfinished))
+  early : (xs : List ℕ) → Bytes xs → stateOf xs ≡ s → length xs < sizeIn heads xs → CanStand heads xs → Announces s (Outcome.refused (refusalNumber Unfinished))
   malformed : (n q : ℕ) → JudgesState s (Outcome.wrong n q) → Announces s (Outcome.wrong n q)

@@ -10,7 +10,7 @@ use Rattle.group.specs.Answers.{refusalNumber}
 use Rattle.group.specs.Ranges.{groupOf}
 use Rattle.layout.specs.Steps.Stands.{stands}
 use Rattle.heads.specs.declared.Head.{Head}
-use Rattle.heads.specs.Kind1.{kind1Size}
+use Rattle.kinds.specs.Kinds.{headSize}
 use Rattle.heads.specs.Heads.{heads}
 use Rattle.judging.specs.Steps.Search.{refusalAt}
 use Rattle.arriving.specs.declared.Arriving.{Arriving}
@@ -25,10 +25,10 @@ upTo f i (suc count) = cond (f i) (upTo f (suc i) count) i
 abbrev pub goodBytes : List ℕ → ℕ
 goodBytes xs = upTo (stands heads xs) 0 (length xs)
 
--- The number of what is wrong with a byte that can't stand at this index of a share of so many letters. It is computed by the code's own tests: that it
+-- The number of what is wrong with a byte that can't stand at this index of a share of so many letters whose head is of this kind. It is computed by the code's own tests: that it
 -- is the one number that `Wrong` allows is `number-exactly` (proofs/Meaning.antt).
-abbrev pub numberAt : ℕ → ℕ → ℕ
-numberAt letters at = refusalNumber (refusalAt kind1Size letters at)
+abbrev pub numberAt : ℕ → ℕ → ℕ → ℕ
+numberAt kind letters at = refusalNumber (refusalAt (headSize kind) letters at)
 
 -- the state with these numbers
 abbrev pub stateWith : ℕ → ℕ → Head → Arriving
@@ -42,17 +42,18 @@ stateWith at wrong h =
       node = h .node;
       l = h .group .l;
       batch = h .batch;
+      kind = h .kind;
     }
 
 -- and the head in it
 abbrev pub headSoFar : Arriving → Head
-headSoFar s = record { group = groupOf (s .n) (s .k) (s .d) (s .l); node = s .node; batch = s .batch }
+headSoFar s = record { group = groupOf (s .n) (s .k) (s .d) (s .l); node = s .node; batch = s .batch; kind = s .kind }
 
 -- the state of bytes of which so many can stand: 0 where these are all, and else the number of what is wrong with the next
 abbrev pub stateTo : List ℕ → ℕ → Arriving
 stateTo xs q =
     let h = heads .headIn (take q xs) in
-    stateWith q (cond (ltb q (length xs)) (numberAt (heads .total h) q) 0) h
+    stateWith q (cond (ltb q (length xs)) (numberAt (h .kind) (heads .total h) q) 0) h
 
 -- The state that these bytes lead to: how many of them can stand, what is wrong with the next if more have come, and the head's numbers as those that can stand
 -- have them.

@@ -4,7 +4,7 @@ mod reaching;
 
 use group::Refusal;
 use heads::Head;
-use heads::kind1;
+use heads::bytes as head_bytes;
 use judging::Judgment;
 use judging::search;
 use records::sizes;
@@ -13,7 +13,7 @@ ghost use mathlib.Core.Bool.{true};
 ghost use mathlib.Core.List.{[]};
 ghost use mathlib.Core.Logic.{_↔_};
 ghost use Prim.Native.Nat.{_^_, _≤_, _<_};
-ghost use Rattle.heads.specs.Kind1.{kind1Size};
+ghost use Rattle.kinds.specs.Kinds.{headSize};
 ghost use Rattle.heads.specs.Heads.{heads};
 ghost use Rattle.judging.specs.Judging.{outcomeOf};
 ghost use Rattle.arriving.specs.States.{numberAt, headSoFar, stateWith, stateOf, Leads};
@@ -36,6 +36,7 @@ pub struct Arriving {
     pub node: usize,
     pub l: usize,
     pub batch: usize,
+    pub kind: usize,
 }
 
 // The share that is coming, as far as its head tells.
@@ -62,14 +63,15 @@ fn state_with(at: usize, wrong: usize, head: Head) -> Arriving
         node: head.node,
         l: g.l,
         batch: head.batch as usize,
+        kind: head.kind,
     }
 }
 
 // The state once a byte couldn't stand at this index of a share with this head.
 fn wrong_at(head: Head, at: usize) -> Arriving
-    ensures { λ r. ⌜ r ≡ stateWith at (numberAt (heads .total head) at) head ⌝ }
+    ensures { λ r. ⌜ r ≡ stateWith at (numberAt (head .kind) (heads .total head) at) head ⌝ }
 {
-    state_with(at, reaching::number_at(kind1::total(head), at), head)
+    state_with(at, reaching::number_at(head.kind, head_bytes::total(head), at), head)
 }
 
 impl Arriving {
@@ -86,6 +88,7 @@ impl Arriving {
             node: 0,
             l: 0,
             batch: 0,
+            kind: 0,
         }
     }
 
@@ -99,6 +102,7 @@ impl Arriving {
             group,
             node: self.node,
             batch: self.batch as u32,
+            kind: self.kind,
         }
     }
 
@@ -110,33 +114,36 @@ impl Arriving {
             return false;
         }
         let head = self.head_so_far();
-        reaching::led(head, kind1::total(head), self.at, self.wrong)
+        reaching::led(head, head_bytes::total(head), self.at, self.wrong)
     }
 
     // The state after these bytes. One to which no bytes lead stays as it is.
     pub fn after(self, bytes: &[u8]) -> Arriving
         ensures { λ r. ⌜ Takes self (now (bytes .entry)) r ⌝ }
     {
-        if self.wrong == 0 && kind1::SIZE <= self.at {
-            return self.past_head(bytes);
+        if 0 < self.wrong {
+            return self.in_head(bytes);
         }
-        self.in_head(bytes)
+        if self.at < kinds::head_size(self.kind) {
+            return self.in_head(bytes);
+        }
+        self.past_head(bytes)
     }
 
     // The same where the head is in, if bytes lead here: then it changes no more.
     fn past_head(self, bytes: &[u8]) -> Arriving
-        requires { ⌜ (self .wrong ≡ 0) × (kind1Size ≤ self .at) ⌝ }
+        requires { ⌜ (self .wrong ≡ 0) × (headSize (self .kind) ≤ self .at) ⌝ }
         ensures { λ r. ⌜ Takes self (now (bytes .entry)) r ⌝ }
     {
         if LAST_BATCH < self.batch {
             return self;
         }
         let at = self.at;
-        let letters = kind1::total(self.head_so_far());
-        if !reaching::within(letters, at) {
+        let letters = head_bytes::total(self.head_so_far());
+        if !reaching::within(self.kind, letters, at) {
             return self;
         }
-        let start = reaching::stepped(bytes, at, letters);
+        let start = reaching::stepped(bytes, at, self.kind, letters);
         if start == bytes.len() {
             let mut next = self;
             next.at = at + start;
@@ -147,7 +154,7 @@ impl Arriving {
 
     // The same where the first `start` bytes are stepped over: the search tells how far the others stand.
     fn searched(self, bytes: &[u8], start: usize, letters: usize) -> Arriving
-        requires { ⌜ PastHead self letters × Stepped (self .at) letters (now bytes) start ⌝ }
+        requires { ⌜ PastHead self letters × Stepped (self .kind) (self .at) letters (now bytes) start ⌝ }
         ensures { λ r. ⌜ Takes self (now (bytes .entry)) r ⌝ }
     {
         let at = self.at;
@@ -173,7 +180,7 @@ impl Arriving {
         let at = self.at;
         let head = self.head_so_far();
         let with = reaching::head_with(head, at, bytes);
-        let good = search::first_wrong(bytes, at, with, kind1::total(with));
+        let good = search::first_wrong(bytes, at, with, head_bytes::total(with));
         let end = at + good;
         if good == bytes.len() {
             return state_with(end, 0, with);
@@ -191,12 +198,12 @@ impl Arriving {
             return Judgment::Malformed(Refusal::Kind, 0);
         }
         let head = self.head_so_far();
-        let letters = kind1::total(head);
+        let letters = head_bytes::total(head);
         if !reaching::led(head, letters, self.at, self.wrong) {
             return Judgment::Malformed(Refusal::Kind, 0);
         }
         // Where a byte was wrong, more bytes came than can stand; how many more makes no difference.
-        judging::judged(kind1::SIZE, head, letters, self.at, self.at + self.wrong)
+        judging::judged(head, letters, self.at, self.at + self.wrong)
     }
 
     // How many bytes can stand, of all so far; 0 in a state to which no bytes lead.
@@ -216,11 +223,11 @@ impl Arriving {
         if let Judgment::Malformed(refusal, at) = self.judge() {
             return Coming::Malformed(refusal, at);
         }
-        if self.at < kind1::SIZE {
+        if self.at < kinds::head_size(self.kind) {
             return Coming::Refused(Refusal::Unfinished);
         }
         let head = self.head_so_far();
-        let bytes = sizes::size_for(kind1::SIZE, kind1::total(head));
+        let bytes = sizes::size_for(kinds::head_size(head.kind), head_bytes::total(head));
         Coming::Share(head, bytes)
     }
 }

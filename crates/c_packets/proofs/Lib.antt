@@ -1,4 +1,3 @@
 -- How recovery and repair are told to C, their one outcome, and the promises about them.
-pub mod Told
 pub mod Outcomes
 pub mod Promises

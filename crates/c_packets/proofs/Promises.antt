@@ -17,11 +17,8 @@ use Rattle.matrix.proofs.Theorems.{reading-once}
 use Rattle.recovering.specs.Calls.{recoverRefusal}
 use Rattle.recovering.proofs.RecoverCalls.{recover-of}
 use Rattle.c_answers.specs.Exports.{Fills}
+use Rattle.c_answers.proofs.Told.{filled}
 use Rattle.c_packets.specs.Packets.{Recovers}
-
--- an export that fills a buffer and returns 0 leaves what is right
-filled : (q : ℕ) (right before after : List ℕ) (r : ℕ) → Fills q right before after r → r ≡ 0 → after ≡ right
-filled q right before after r f z = f .holds ∙ if-fine q right before (sym (f .returned) ∙ z)
 
 -- demand 3: the packets of an XOR, through three calls
 pub encode-xored :

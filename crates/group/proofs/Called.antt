@@ -4,11 +4,12 @@ use mathlib.Core.List.{List}
 use Prim.Native.Nat.{ℕ, zero, suc}
 use native.Mathlib.Omega.{arith}
 use lib.Dec.{eqb}
+use lib.ListN.{length}
 use Rattle.group.specs.declared.Refusal.{Refusal}
 use Rattle.group.specs.declared.Answer.{Answer}
-use Rattle.group.specs.Answers.{refusalNumber, unless, first}
-use Rattle.group.proofs.Refusals.{numbered, refuses, gives, first-fine}
-use Rattle.group.specs.Answers.{Called}
+use Rattle.group.specs.Answers.{refusalNumber, numberOf, valueOf, unless, first, Answers}
+use Rattle.group.proofs.Refusals.{numbered, refuses, gives, first-fine, if-refused, if-fine}
+use Rattle.group.specs.Answers.{Called, Solves}
 
 pub call-refused :
     (r : Refusal) (q v : ℕ) (right before : List ℕ) → refusalNumber r ≡ q → Called q v right before before (Answer.Refused r)
@@ -26,3 +27,31 @@ pub lengths-after :
     → first (unless (eqb a wa) 5) (unless (eqb b wb) 6) ≡ first q (first (unless (eqb a A) 5) (unless (eqb b B) 6))
 lengths-after q a wa b wb A B z ea eb =
     ap₂ (λ m n. first (unless (eqb a m) 5) (unless (eqb b n) 6)) ea eb ∙ sym (first-fine q (first (unless (eqb a A) 5) (unless (eqb b B) 6)) z)
+
+-- what a refused call that solves in place leaves, and one that isn't refused
+pub solves-refused :
+    (r : Refusal) (q : ℕ) (given : List ℕ → List ℕ) (worth : List ℕ → ℕ) (before : List ℕ) → refusalNumber r ≡ q
+    → Solves q given worth before before (Answer.Refused r)
+solves-refused r q given worth before e =
+    record {
+      answer = refuses r q (worth before) e;
+      same-length = refl;
+      holds = if-refused q (given before) before (λ z. numbered r (e ∙ z));
+    }
+
+pub solves-fine :
+    (q count : ℕ) (given : List ℕ → List ℕ) (worth : List ℕ → ℕ) (before after : List ℕ) → q ≡ 0 → count ≡ worth after
+    → length after ≡ length before → given after ≡ before → Solves q given worth before after (Answer.Value count)
+solves-fine q count given worth before after e counted size is =
+    record { answer = gives q count (worth after) e counted; same-length = size; holds = if-fine q (given after) after e ∙ is }
+
+-- an answer that is no refusal carries its value, and the call's own number is 0
+pub fine-number : (r : Answer) (q v : ℕ) → Answers r q v → numberOf r ≡ 0 → q ≡ 0
+fine-number r q v a z = sym (a .number) ∙ z
+
+pub fine-value : (r : Answer) (q v : ℕ) → Answers r q v → numberOf r ≡ 0 → valueOf r ≡ v
+fine-value r q v a z = a .valued ∙ if-fine q v 0 (fine-number r q v a z)
+
+-- a call that is not refused leaves what is right
+pub called-fine : (q v : ℕ) (right before after : List ℕ) (r : Answer) → Called q v right before after r → numberOf r ≡ 0 → after ≡ right
+called-fine q v right before after r c z = c .holds ∙ if-fine q right before (fine-number r q v (c .answer) z)

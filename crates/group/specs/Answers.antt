@@ -3,6 +3,7 @@ use mathlib.Core.Path.{_≡_}
 use mathlib.Core.Bool.{Bool, true, false}
 use mathlib.Core.List.{List}
 use Prim.Native.Nat.{ℕ, zero, suc}
+use lib.ListN.{length}
 use Rattle.group.specs.declared.Refusal.{Refusal}
 use Rattle.group.specs.declared.Refusal.the-variants.{Numbers, Length, Ids, Order, Input, Output, Unfinished, Kind, HeadNumber, Filler, Total, AfterEnd}
 use Rattle.group.specs.declared.Check.{Check}
@@ -69,3 +70,9 @@ pub record Answers (r : Answer) (refusal value : ℕ) : Type 0 where
 pub record Called (refusal value : ℕ) (right before after : List ℕ) (r : Answer) : Type 0 where
   pub answer : Answers r refusal value
   pub holds : after ≡ ifFine refusal right before
+
+-- A call that solves in place: what its buffer holds at exit gives what it held at entry, and the answer is what that is worth; a refused call leaves it as it was.
+pub record Solves (refusal : ℕ) (gives : List ℕ → List ℕ) (worth : List ℕ → ℕ) (before after : List ℕ) (r : Answer) : Type 0 where
+  pub answer : Answers r refusal (worth after)
+  pub same-length : length after ≡ length before
+  pub holds : ifFine refusal (gives after) after ≡ before

@@ -5,7 +5,7 @@ use crate::Refusal;
 ghost use mathlib.Core.Path.{_≡_};
 ghost use lib.Dec.{eqb};
 ghost use Rattle.group.specs.Answers.{checkNumber, first, unless, refusalNumber};
-ghost use Rattle.group.specs.Ranges.{groupRefusal, nodeRefusal, idRefusal, numbersInRange, lengthInRange};
+ghost use Rattle.group.specs.Ranges.{between, groupRefusal, nodeRefusal, idRefusal, numbersInRange, lengthInRange};
 
 // n is 3 to 16, and 2 <= k <= d <= n-1.
 pub fn numbers_in_range(g: Group) -> bool
@@ -52,17 +52,24 @@ pub fn group(g: Group) -> Check
     Check::Fine
 }
 
+// A number is one of 1..most: else refusal 3.
+pub fn one_of(number: usize, most: usize) -> Check
+    ensures { λ r. ⌜ checkNumber r ≡ unless (between 1 most number) 3 ⌝ }
+{
+    if number < 1 {
+        return Check::Refused(Refusal::Ids);
+    }
+    if most < number {
+        return Check::Refused(Refusal::Ids);
+    }
+    Check::Fine
+}
+
 // One id: refusal 3.
 pub fn id(g: Group, id: usize) -> Check
     ensures { λ r. ⌜ checkNumber r ≡ idRefusal g id ⌝ }
 {
-    if id < 1 {
-        return Check::Refused(Refusal::Ids);
-    }
-    if g.n < id {
-        return Check::Refused(Refusal::Ids);
-    }
-    Check::Fine
+    one_of(id, g.n)
 }
 
 // A group and one of its nodes: refusals 1, 2 and 3.

@@ -130,6 +130,11 @@ some-numbers h batch some =
       batch = batch;
     }
 
+-- the size of the head that bytes tell is that of their kind
+pub size-told : (xs : List ℕ) (h : Head) (front : ℕ) → front ≡ headSize (h .kind) → h ≡ headIn xs → front ≡ headSize (getD xs 0 0)
+unfolding headIn
+size-told xs h front size told = size ∙ ap (λ (h : Head). headSize (h .kind)) told
+
 -- numbers and tests depend on no later byte
 module _ (xs zs : List ℕ) where
   pub same-numbers : SameBelow (headSize (getD xs 0 0)) xs zs → headIn xs ≡ headIn zs

@@ -15,29 +15,30 @@ use Rattle.layout.specs.Layout.{totalIn}
 use Rattle.layout.specs.Steps.Stands.{stands}
 use Rattle.layout.proofs.Stands.{stands-head, stands-past}
 use Rattle.heads.specs.declared.Head.{Head}
-use Rattle.heads.specs.Kind1.{kind1Size, kind1Tests}
-use Rattle.heads.specs.Heads.{heads}
-use Rattle.heads.proofs.Kind1Laws.{one-kind}
+use Rattle.kinds.specs.Kinds.{headSize}
+use Rattle.heads.specs.Heads.{headIn, headTests, heads}
 use Rattle.judging.specs.Steps.Search.{standsAt, Stops, StopsFrom}
 
 -- the test of a byte in the head, and past it
 module _ (h : Head) (p byte : ℕ) where
-  pub at-head : p < kind1Size → standsAt h p byte ≡ getD (kind1Tests h byte) p true
+  pub at-head : p < headSize (h .kind) → standsAt h p byte ≡ getD (headTests h) p true
   unfolding standsAt standsIn
-  at-head l = rw (head-at kind1Size p l .0, head-at kind1Size p l .1)
+  at-head l = rw (head-at (headSize (h .kind)) p l .0, head-at (headSize (h .kind)) p l .1)
 
-  pub at-past : kind1Size ≤ p → standsAt h p byte ≡ recordStands (heads .total h) ((p - kind1Size) / blockSize) ((p - kind1Size) % blockSize) byte
+  pub at-past : headSize (h .kind) ≤ p → standsAt h p byte ≡ recordStands (heads .total h) ((p - headSize (h .kind)) / blockSize) ((p - headSize (h .kind)) % blockSize) byte
   unfolding standsAt standsIn
   at-past l =
-      stands-placed kind1Size (kind1Tests h byte) (heads .total h) (suc ((p - kind1Size) / blockSize)) ((p - kind1Size) % blockSize) p byte (omega arith)
+      stands-placed (headSize (h .kind)) (headTests h) (heads .total h) (suc ((p - headSize (h .kind)) / blockSize)) ((p - headSize (h .kind)) % blockSize) p byte (omega arith)
       (omega arith)
 
--- whether a byte stands is told by the head, the index and the byte, since no test but the first looks at the kind
+-- whether a byte stands is told by the head, the index and the byte
 pub stands-at : (zs : List ℕ) (p : ℕ) → stands heads zs p ≡ standsAt (heads .headIn zs) p (getD zs p 0)
+unfolding headIn
 stands-at zs p =
-    ⊎-elim (λ past. stands-past heads zs kind1Size (totalIn heads zs) refl refl p past ∙ sym (at-past (heads .headIn zs) p (getD zs p 0) past))
-    (λ within. stands-head heads zs p within ∙ sym (at-head (heads .headIn zs) p (getD zs p 0) within ∙ one-kind (heads .headIn zs) zs p))
-    (le-or-lt kind1Size p)
+    ⊎-elim
+    (λ past. stands-past heads zs (headSize (getD zs 0 0)) (totalIn heads zs) refl refl p past ∙ sym (at-past (heads .headIn zs) p (getD zs p 0) past))
+    (λ within. stands-head heads zs p within ∙ sym (at-head (heads .headIn zs) p (getD zs p 0) within))
+    (le-or-lt (headSize (getD zs 0 0)) p)
 
 module _ (xs ys : List ℕ) (q : ℕ) where
   -- of the bytes that come after others

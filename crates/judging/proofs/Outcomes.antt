@@ -12,7 +12,7 @@ use Rattle.layout.specs.Judgment.{IsNeither}
 use Rattle.layout.proofs.Judgments.{not-share-and-beginning, one-head, one-of-three, one-place, offends-neither, neither-offends}
 use Rattle.heads.specs.declared.Head.{Head}
 use Rattle.heads.specs.Heads.{heads}
-use Rattle.heads.proofs.Kind1Laws.{lawful}
+use Rattle.heads.proofs.HeadLaws.{lawful}
 use Rattle.judging.specs.declared.Judgment.{Judgment}
 use Rattle.judging.specs.Judging.{outcomeOf, Wrong, Judges}
 use Rattle.judging.specs.Steps.Search.{refusalAt}

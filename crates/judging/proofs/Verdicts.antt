@@ -23,7 +23,7 @@ use Rattle.judging.specs.declared.Judgment.{Judgment}
 use Rattle.heads.specs.Heads.{heads}
 use Rattle.judging.specs.Judging.{outcomeOf, Wrong, Judges, CanStandTo}
 use Rattle.judging.specs.Steps.Search.{Stops, refusalAt, judgmentAt}
-use Rattle.heads.proofs.Kind1Laws.{lawful}
+use Rattle.heads.proofs.HeadLaws.{lawful}
 use Rattle.judging.proofs.WouldStand.{wrong-at}
 
 -- Where the search stops, so many bytes can stand.

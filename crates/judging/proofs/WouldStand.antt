@@ -23,7 +23,7 @@ use Rattle.layout.specs.Steps.Stands.{stands}
 use Rattle.layout.proofs.Stands.{head, block, end, place-of, stands-block, letter-stands}
 use Rattle.layout.proofs.Judgments.{not-both, share-head, share-front, wrong-if}
 use Rattle.heads.specs.Heads.{heads}
-use Rattle.heads.proofs.Kind1Laws.{lawful}
+use Rattle.heads.proofs.HeadLaws.{lawful}
 use Rattle.judging.specs.Judging.{WouldStand, Wrong}
 use Rattle.judging.specs.Steps.Search.{refusalAt}
 

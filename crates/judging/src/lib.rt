@@ -4,11 +4,12 @@ pub mod search;
 
 use group::Refusal;
 use heads::Head;
-use heads::kind1;
+use heads::bytes as head_bytes;
 use records::sizes;
 ghost use mathlib.Core.Path.{_≡_};
 ghost use Prim.Native.Nat.{_≤_, _<_};
 ghost use Rattle.records.specs.Records.{blockSize, totalLimit, sizeFor};
+ghost use Rattle.kinds.specs.Kinds.{headSize};
 ghost use Rattle.judging.specs.Judging.{Judges, CanStandTo, outcomeOf};
 ghost use Rattle.judging.specs.Steps.Search.{judgmentAt};
 
@@ -27,10 +28,10 @@ pub enum Judgment {
 pub fn judge(share: &[u8]) -> Judgment
     ensures { λ r. ⌜ Judges (now (share .entry)) (outcomeOf r) ⌝ }
 {
-    let head = kind1::head_in(share);
-    let letters = kind1::total(head);
+    let head = head_bytes::head_in(share);
+    let letters = head_bytes::total(head);
     let at = search::first_wrong(share, 0, head, letters);
-    judged(kind1::SIZE, head, letters, at, share.len())
+    judged(head, letters, at, share.len())
 }
 
 // How many of these bytes can stand, from the front: all of them where they are a share or the beginning of one, else as many as stand before
@@ -38,8 +39,8 @@ pub fn judge(share: &[u8]) -> Judgment
 pub fn good_bytes(share: &[u8]) -> usize
     ensures { λ r. ⌜ CanStandTo (now (share .entry)) r ⌝ }
 {
-    let head = kind1::head_in(share);
-    search::first_wrong(share, 0, head, kind1::total(head))
+    let head = head_bytes::head_in(share);
+    search::first_wrong(share, 0, head, head_bytes::total(head))
 }
 
 // How many bytes have to be in before a share with this head is complete: all of them, its end too.
@@ -51,10 +52,11 @@ fn bytes_to_see(front: usize, letters: usize) -> usize
 }
 
 // What bytes are whose first wrong one is at this index: all of them stand if there is none.
-pub fn judged(front: usize, head: Head, letters: usize, at: usize, count: usize) -> Judgment
-    requires { ⌜ (front ≤ blockSize) × (letters < totalLimit) ⌝ }
-    ensures { λ r. ⌜ r ≡ judgmentAt front head letters at count ⌝ }
+pub fn judged(head: Head, letters: usize, at: usize, count: usize) -> Judgment
+    requires { ⌜ letters < totalLimit ⌝ }
+    ensures { λ r. ⌜ r ≡ judgmentAt (headSize (head .kind)) head letters at count ⌝ }
 {
+    let front = kinds::head_size(head.kind);
     if at < count {
         return Judgment::Malformed(refusing::refusal_at(front, letters, at), at);
     }

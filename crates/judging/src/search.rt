@@ -1,6 +1,6 @@
 // The search for the first byte that can't stand where it is.
 use heads::Head;
-use heads::kind1;
+use heads::bytes as head_bytes;
 use layout::skipping;
 use records::sizes;
 use records::standing;
@@ -8,33 +8,42 @@ ghost use mathlib.Core.Path.{_≡_};
 ghost use Prim.Native.Nat.{_≤_, _<_};
 ghost use Rattle.records.specs.Records.{blockSize, totalLimit};
 ghost use Rattle.records.specs.Steps.Places.{standsIn};
-ghost use Rattle.heads.specs.Kind1.{kind1Tests};
-ghost use Rattle.heads.specs.Heads.{heads};
+ghost use Rattle.kinds.specs.Kinds.{headSize};
+ghost use Rattle.heads.specs.Heads.{headTests, heads};
 ghost use Rattle.judging.specs.Steps.Search.{farthest, StopsFrom};
 
 // A byte can stand at this offset of this record.
 fn stands_in(head: Head, letters: usize, nth: usize, offset: usize, byte: u8) -> bool
     requires { ⌜ (letters < totalLimit) × (offset < blockSize) ⌝ }
-    ensures { λ s. ⌜ s ≡ standsIn (kind1Tests head byte) letters nth offset byte ⌝ }
+    ensures { λ s. ⌜ s ≡ standsIn (headTests head) letters nth offset byte ⌝ }
 {
     if nth == 0 {
-        return kind1::head_stands(head, offset, byte);
+        return head_bytes::head_stands(head, offset);
     }
     standing::record_stands(letters, nth - 1, offset, byte)
 }
 
-// The index of the first of these bytes that can't stand where it is, or the number of bytes: record by record, byte by byte. The first of
-// them stands at index `base` of a share with this head. Full blocks are stepped over.
+// The index of the first of these bytes that can't stand where it is, or the number of bytes. The first of them stands at index `base` of a share
+// with this head.
 pub fn first_wrong(bytes: &[u8], base: usize, head: Head, letters: usize) -> usize
     requires { ⌜ (base ≤ farthest) × (letters ≡ heads .total head) ⌝ }
+    ensures { λ r. ⌜ StopsFrom base head (now (bytes .entry)) r ⌝ }
+{
+    let front = kinds::head_size(head.kind);
+    first_wrong_behind(bytes, base, front, head, letters)
+}
+
+// The same where the head's size is known: record by record, byte by byte. Full blocks are stepped over.
+fn first_wrong_behind(bytes: &[u8], base: usize, front: usize, head: Head, letters: usize) -> usize
+    requires { ⌜ (base ≤ farthest) × (front ≡ headSize (head .kind)) × (letters ≡ heads .total head) ⌝ }
     ensures { λ r. ⌜ StopsFrom base head (now (bytes .entry)) r ⌝ }
 {
     let mut at = 0;
     'records: while at < bytes.len() {
         let start = at;
-        let nth = sizes::record_at(kind1::SIZE, base + start);
-        let offset = sizes::offset_at(kind1::SIZE, base + start);
-        let left = sizes::record_size(kind1::SIZE, nth) - offset;
+        let nth = sizes::record_at(front, base + start);
+        let offset = sizes::offset_at(front, base + start);
+        let left = sizes::record_size(front, nth) - offset;
         let end = letters::lesser(start + left, bytes.len());
         while at < end {
             if !stands_in(head, letters, nth, offset + (at - start), bytes[at]) {

@@ -10,27 +10,19 @@ use Rattle.letters.specs.Algebra.{Adding, xors, bytes, bits}
 use Rattle.letters.specs.Lanes.{Bytes, lane, Carries}
 use Rattle.letters.proofs.Carried.{letter-carried, lastByte, last-carries, lane-carries, bytes-kept, kept-bytes}
 use Rattle.shifts.specs.Rule.{t}
-use Rattle.system.specs.System.{part, sequence}
+use Rattle.system.specs.System.{sequence}
 use Rattle.group.specs.declared.Group.{Group}
 use Rattle.lengths.specs.Lengths.{fileLetters, packetLength, packetStart, repairLetters}
 use Rattle.sequences.specs.Lists.{run, joined, ranked}
-use Rattle.sequences.proofs.Lists.{run-same, joined-same}
-use Rattle.sequences.proofs.CarriedRuns.{run-carried, joined-carried, sequence-carried, moved-carried, part-carried}
+use Rattle.sequences.proofs.CarriedRuns.{runs-carried, lists-carried, sequence-carried, moved-carried, parts-carried}
+use Rattle.sequences.proofs.PartsOfBytes.{buffer-bytes, exactly-one-buffer-of-bytes}
 use Rattle.matrix.specs.Matrix.{entryNumber, asFile, matrix, packetLetter, packet, packets}
 use Rattle.matrix.specs.Pieces.{pieceLetter, reading, Chosen}
 use Rattle.matrix.specs.Repair.{heldLetter, helperSum, helping, equations}
-use Rattle.matrix.proofs.Reading.{shifts}
-use Rattle.matrix.proofs.Theorems.{reading-once, exactly-one-file, exactly-one-repair}
-use Rattle.matrix.proofs.Rebuilt.{one-repair}
+use Rattle.matrix.proofs.Reading.{shifts, ordered}
+use Rattle.matrix.proofs.Theorems.{reading-once, exactly-one-file}
 
 module _ {A B : Type 0} (𝓐 : Adding A) (𝓑 : Adding B) (h : A → B) (c : Carries 𝓐 𝓑 h) (g : Group) where
-  -- runs that have the map's letters are the map of runs
-  runs-carried : (n : ℕ) (f : ℕ → A) (f′ : ℕ → B) → ((p : ℕ) → h (f p) ≡ f′ p) → map h (run n f) ≡ run n f′
-  runs-carried n f f′ e = run-carried h n f ∙ run-same (𝓑 .none) n (λ p. h (f p)) f′ (λ p lo hi. e p)
-
-  lists-carried : (n : ℕ) (F : ℕ → List A) (F′ : ℕ → List B) → ((j : ℕ) → map h (F j) ≡ F′ j) → map h (joined n F) ≡ joined n F′
-  lists-carried n F F′ e = joined-carried h n F ∙ joined-same n (λ j. map h (F j)) F′ (λ j lo hi. e j)
-
   matrix-carried : (file : List A) (v u p : ℕ) → h (matrix 𝓐 g file v u p) ≡ matrix 𝓑 g (map h file) v u p
   unfolding matrix
   matrix-carried file v u p = either-way (leb (min v u) (g .k))
@@ -52,25 +44,25 @@ module _ {A B : Type 0} (𝓐 : Adding A) (𝓑 : Adding B) (h : A → B) (c : C
   pub packets-carried : (file : List A) (i : ℕ) → map h (packets 𝓐 g file i) ≡ packets 𝓑 g (map h file) i
   unfolding packets packet
   packets-carried file i =
-      lists-carried (g .d) (packet 𝓐 g file i) (packet 𝓑 g (map h file) i)
-      (λ j. runs-carried (packetLength g i j) (packetLetter 𝓐 g file i j) (packetLetter 𝓑 g (map h file) i j) (λ p. packet-letter-carried file i j p))
+      lists-carried h (g .d) (packet 𝓐 g file i) (packet 𝓑 g (map h file) i)
+      (λ j. runs-carried 𝓐 𝓑 h c (packetLength g i j) (packetLetter 𝓐 g file i j) (packetLetter 𝓑 g (map h file) i j) (λ p. packet-letter-carried file i j p))
 
   pub reading-carried : (file : List A) (ids : List ℕ) → map h (reading 𝓐 g file ids) ≡ reading 𝓑 g (map h file) ids
   unfolding reading asFile pieceLetter
   reading-carried file ids =
-      lists-carried (g .d) (λ u. joined (min u (g .k)) (λ v. run (g .l) (pieceLetter 𝓐 g file ids v u)))
+      lists-carried h (g .d) (λ u. joined (min u (g .k)) (λ v. run (g .l) (pieceLetter 𝓐 g file ids v u)))
       (λ u. joined (min u (g .k)) (λ v. run (g .l) (pieceLetter 𝓑 g (map h file) ids v u)))
       (λ u.
-      lists-carried (min u (g .k)) (λ v. run (g .l) (pieceLetter 𝓐 g file ids v u)) (λ v. run (g .l) (pieceLetter 𝓑 g (map h file) ids v u))
+      lists-carried h (min u (g .k)) (λ v. run (g .l) (pieceLetter 𝓐 g file ids v u)) (λ v. run (g .l) (pieceLetter 𝓑 g (map h file) ids v u))
       (λ v.
-      runs-carried (g .l) (pieceLetter 𝓐 g file ids v u) (pieceLetter 𝓑 g (map h file) ids v u)
+      runs-carried 𝓐 𝓑 h c (g .l) (pieceLetter 𝓐 g file ids v u) (pieceLetter 𝓑 g (map h file) ids v u)
       (λ p. packet-letter-carried file (ranked ids v) u (p + t (ranked ids v) v))))
 
   pub helping-carried :
       (lost helper u : ℕ) (held : List A) → map h (helping 𝓐 g lost helper u held) ≡ helping 𝓑 g lost helper u (map h held)
   unfolding helping helperSum heldLetter
   helping-carried lost helper u held =
-      runs-carried (repairLetters g lost) (λ p. helperSum 𝓐 g lost helper held (p + t helper u)) (λ p. helperSum 𝓑 g lost helper (map h held) (p + t helper u))
+      runs-carried 𝓐 𝓑 h c (repairLetters g lost) (λ p. helperSum 𝓐 g lost helper held (p + t helper u)) (λ p. helperSum 𝓑 g lost helper (map h held) (p + t helper u))
       (λ p.
       moved-carried 𝓐 𝓑 h c (g .d) (heldLetter 𝓐 g helper held) (heldLetter 𝓑 g helper (map h held))
       (λ j q. letter-carried 𝓐 𝓑 h c held (packetStart g helper j) (packetLength g helper j) q) (t lost) (p + t helper u))
@@ -78,15 +70,7 @@ module _ {A B : Type 0} (𝓐 : Adding A) (𝓑 : Adding B) (h : A → B) (c : C
   pub equations-carried :
       (lost : ℕ) (helpers : List ℕ) (rebuilt : List A) → map h (equations 𝓐 g lost helpers rebuilt) ≡ equations 𝓑 g lost helpers (map h rebuilt)
   unfolding equations
-  equations-carried lost helpers rebuilt =
-      lists-carried (g .d) (λ u. run (repairLetters g lost) (part 𝓐 (g .d) (shifts helpers) (sequence (𝓐 .none) rebuilt (repairLetters g lost)) u))
-      (λ u. run (repairLetters g lost) (part 𝓑 (g .d) (shifts helpers) (sequence (𝓑 .none) (map h rebuilt) (repairLetters g lost)) u))
-      (λ u.
-      runs-carried (repairLetters g lost) (part 𝓐 (g .d) (shifts helpers) (sequence (𝓐 .none) rebuilt (repairLetters g lost)) u)
-      (part 𝓑 (g .d) (shifts helpers) (sequence (𝓑 .none) (map h rebuilt) (repairLetters g lost)) u)
-      (λ p.
-      part-carried 𝓐 𝓑 h c (g .d) (sequence (𝓐 .none) rebuilt (repairLetters g lost)) (sequence (𝓑 .none) (map h rebuilt) (repairLetters g lost))
-      (λ a q. sequence-carried 𝓐 𝓑 h c rebuilt (repairLetters g lost) a q) (shifts helpers) u p))
+  equations-carried lost helpers = parts-carried 𝓐 𝓑 h c (g .d) (repairLetters g lost) (shifts helpers)
 
 -- each of the eight bit lanes is one copy of the papers' code: a lane of the packets is the packets of that lane, and so for the pieces
 module _ (g : Group) (b : ℕ) where
@@ -129,10 +113,9 @@ module _ (g : Group) where
   pub repair-bytes :
       (lost : ℕ) (helpers rebuilt : List ℕ) → Chosen g (g .d) helpers → length rebuilt ≡ g .d * repairLetters g lost
       → Bytes (equations xors g lost helpers rebuilt) → Bytes rebuilt
-  repair-bytes lost helpers rebuilt chosen long b =
-      kept-bytes rebuilt
-      (one-repair bytes g lost helpers chosen (map lastByte rebuilt) rebuilt (length-map rebuilt lastByte ∙ long) long
-      (sym (equations-carried xors xors lastByte last-carries g lost helpers rebuilt) ∙ bytes-kept (equations xors g lost helpers rebuilt) b))
+  unfolding equations
+  repair-bytes lost helpers rebuilt chosen =
+      buffer-bytes (g .d) (repairLetters g lost) (shifts helpers) (ordered g (g .d) helpers chosen) rebuilt
 
   -- every content of B*L bytes comes from exactly one file, and that is a file of bytes
   pub exactly-one-file-of-bytes :
@@ -148,6 +131,6 @@ module _ (g : Group) where
       (lost : ℕ) (helpers pieces : List ℕ) → Chosen g (g .d) helpers → length pieces ≡ g .d * repairLetters g lost → Bytes pieces
       → (rebuilt : List ℕ) × (length rebuilt ≡ g .d * repairLetters g lost) × Bytes rebuilt × (equations xors g lost helpers rebuilt ≡ pieces)
       × ((other : List ℕ) → length other ≡ g .d * repairLetters g lost → equations xors g lost helpers other ≡ pieces → other ≡ rebuilt)
-  exactly-one-repair-of-bytes lost helpers pieces chosen long b =
-      let one = exactly-one-repair bytes g lost helpers chosen pieces long in
-      (one .0, one .1, repair-bytes lost helpers (one .0) chosen (one .1) (rw (one .2) b), one .2, one .3)
+  unfolding equations
+  exactly-one-repair-of-bytes lost helpers pieces chosen =
+      exactly-one-buffer-of-bytes (g .d) (repairLetters g lost) (shifts helpers) (ordered g (g .d) helpers chosen) pieces

@@ -33,7 +33,7 @@ module _ (g : Group) (ids file : List ℕ) (chosen : Chosen g (g .k) ids) where
       sum-same counts (g .l) (λ p. within (g .l) (place (shifts ids) w p u) (worthOf (matrix xors g file v u (place (shifts ids) w p u)))) (λ p. within (g .l) (place (shifts ids) w p u) 1)
       (λ p lo hi. ap (within (g .l) (place (shifts ids) w p u)) (worthOf-is-one (matrix xors g file v u (place (shifts ids) w p u))))
       ∙ moved-inside (g .l) (t (ranked ids w) w) (t (ranked ids w) u)
-      ∙ ap (λ m. g .l - m) (no-further (shift-rises (ranked ids w) w u (chosen .falling .from-one w lw hk) lw hu))
+      ∙ ap (λ m. g .l - m) (no-further (shift-rises (ranked ids w) w u (chosen .nodes .falling .from-one w lw hk) lw hu))
     where
       no-further : t (ranked ids w) w ≤ t (ranked ids w) u → (t (ranked ids w) u - t (ranked ids w) w) + (t (ranked ids w) w - t (ranked ids w) u) ≡ t (ranked ids w) u - t (ranked ids w) w
       no-further h = omega arith

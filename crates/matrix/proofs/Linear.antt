@@ -13,8 +13,8 @@ use Rattle.system.specs.System.{sequence}
 use Rattle.group.specs.declared.Group.{Group}
 use Rattle.lengths.specs.Lengths.{packetLength, packetStart, repairLetters}
 use Rattle.sequences.specs.Lists.{joined, ranked}
-use Rattle.sequences.proofs.Lists.{length-run, run-same, joined-same}
-use Rattle.sequences.proofs.LinearRuns.{run-xored, same-lengths, joined-xored, letter-of-xored, moved-plus, moved-same}
+use Rattle.sequences.proofs.Lists.{length-run, joined-same}
+use Rattle.sequences.proofs.LinearRuns.{runs-linear, same-lengths, joined-xored, letter-of-xored, moved-plus, moved-same}
 use Rattle.matrix.specs.Matrix.{entryNumber, asFile, matrix, packetLetter, packet, packets}
 use Rattle.matrix.specs.Pieces.{pieceLetter, piece, reading}
 use Rattle.matrix.specs.Repair.{heldLetter, helperSum, helping}
@@ -49,9 +49,7 @@ module _ {A : Type 0} (𝓐 : Adding A) where
     packet-linear : (i j : ℕ) → packet 𝓐 g (xored 𝓐 file file′) i j ≡ xored 𝓐 (packet 𝓐 g file i j) (packet 𝓐 g file′ i j)
     unfolding packet
     packet-linear i j =
-        run-same (𝓐 .none) (packetLength g i j) (packetLetter 𝓐 g (xored 𝓐 file file′) i j)
-        (λ p. 𝓐 .plus (packetLetter 𝓐 g file i j p) (packetLetter 𝓐 g file′ i j p)) (λ p lo hi. packet-plus i j p)
-        ∙ run-xored 𝓐 (packetLength g i j) (packetLetter 𝓐 g file i j) (packetLetter 𝓐 g file′ i j)
+        runs-linear 𝓐 (packetLength g i j) (packetLetter 𝓐 g (xored 𝓐 file file′) i j) (packetLetter 𝓐 g file i j) (packetLetter 𝓐 g file′ i j) (packet-plus i j)
 
     -- the packets of the XOR of two files are the XOR of their packets
     pub packets-linear : (i : ℕ) → packets 𝓐 g (xored 𝓐 file file′) i ≡ xored 𝓐 (packets 𝓐 g file i) (packets 𝓐 g file′ i)
@@ -65,10 +63,8 @@ module _ {A : Type 0} (𝓐 : Adding A) where
         (ids : List ℕ) (v u : ℕ) → piece 𝓐 g (xored 𝓐 file file′) ids v u ≡ xored 𝓐 (piece 𝓐 g file ids v u) (piece 𝓐 g file′ ids v u)
     unfolding piece pieceLetter
     piece-linear ids v u =
-        run-same (𝓐 .none) (g .l) (pieceLetter 𝓐 g (xored 𝓐 file file′) ids v u)
-        (λ p. 𝓐 .plus (pieceLetter 𝓐 g file ids v u p) (pieceLetter 𝓐 g file′ ids v u p))
-        (λ p lo hi. packet-plus (ranked ids v) u (p + t (ranked ids v) v))
-        ∙ run-xored 𝓐 (g .l) (pieceLetter 𝓐 g file ids v u) (pieceLetter 𝓐 g file′ ids v u)
+        runs-linear 𝓐 (g .l) (pieceLetter 𝓐 g (xored 𝓐 file file′) ids v u) (pieceLetter 𝓐 g file ids v u) (pieceLetter 𝓐 g file′ ids v u)
+        (λ p. packet-plus (ranked ids v) u (p + t (ranked ids v) v))
 
     pub reading-linear :
         (ids : List ℕ) → reading 𝓐 g (xored 𝓐 file file′) ids ≡ xored 𝓐 (reading 𝓐 g file ids) (reading 𝓐 g file′ ids)
@@ -97,12 +93,10 @@ module _ {A : Type 0} (𝓐 : Adding A) where
       → helping 𝓐 g lost helper u (xored 𝓐 held held′) ≡ xored 𝓐 (helping 𝓐 g lost helper u held) (helping 𝓐 g lost helper u held′)
   unfolding helping helperSum heldLetter
   helping-linear g lost helper u held held′ e =
-      run-same (𝓐 .none) (repairLetters g lost) (λ p. helperSum 𝓐 g lost helper (xored 𝓐 held held′) (p + t helper u))
-      (λ p. 𝓐 .plus (helperSum 𝓐 g lost helper held (p + t helper u)) (helperSum 𝓐 g lost helper held′ (p + t helper u)))
-      (λ p lo hi.
+      runs-linear 𝓐 (repairLetters g lost) (λ p. helperSum 𝓐 g lost helper (xored 𝓐 held held′) (p + t helper u))
+      (λ p. helperSum 𝓐 g lost helper held (p + t helper u)) (λ p. helperSum 𝓐 g lost helper held′ (p + t helper u))
+      (λ p.
       moved-same 𝓐 (g .d) (t lost) (heldLetter 𝓐 g helper (xored 𝓐 held held′))
       (λ j q. 𝓐 .plus (heldLetter 𝓐 g helper held j q) (heldLetter 𝓐 g helper held′ j q)) (p + t helper u)
       (λ j q. letter-of-xored 𝓐 held held′ (packetStart g helper j) (packetLength g helper j) q e)
       ∙ moved-plus 𝓐 (g .d) (t lost) (heldLetter 𝓐 g helper held) (heldLetter 𝓐 g helper held′) (p + t helper u))
-      ∙ run-xored 𝓐 (repairLetters g lost) (λ p. helperSum 𝓐 g lost helper held (p + t helper u))
-      (λ p. helperSum 𝓐 g lost helper held′ (p + t helper u))

@@ -28,7 +28,7 @@ abbrev pub shifts : List ℕ → ℕ → ℕ → ℕ
 shifts ids = ruled t (ranked ids)
 
 pub ordered : (g : Group) (wanted : ℕ) (ids : List ℕ) → Chosen g wanted ids → Ordered wanted (shifts ids)
-ordered g wanted ids c = falling-ordered t refined wanted (ranked ids) (c .falling)
+ordered g wanted ids c = falling-ordered t refined wanted (ranked ids) (c .nodes .falling)
 
 -- in column u, the ranks that send a piece give an order too
 pub column-ordered : (g : Group) (ids : List ℕ) → Chosen g (g .k) ids → (u : ℕ) → Ordered (min u (g .k)) (shifts ids)

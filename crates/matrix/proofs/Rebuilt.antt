@@ -1,19 +1,14 @@
 -- Any d nodes rebuild a lost one: since the matrix is symmetric, what a helper sends is a part of the lost node's own packets, and the d parts have one solution.
 use mathlib.Core.Path.{_≡_, refl, sym, ap, _∙_}
 use mathlib.Core.List.{List}
-use mathlib.Core.Logic.{⊎-elim}
 use Prim.Native.Nat.{ℕ, _+_, _-_, _*_, _≤_}
 use native.Mathlib.Omega.{arith}
 use lib.ListN.{length}
 use Rattle.letters.specs.Algebra.{Adding, Letters, sum}
 use Rattle.letters.specs.Places.{letter}
-use Rattle.letters.proofs.Places.{place-cases}
 use Rattle.letters.proofs.Sums.{sum-same, sum-swap}
 use Rattle.shifts.specs.Rule.{t}
-use Rattle.system.specs.System.{part, sequence, Sequences}
-use Rattle.system.proofs.OneSolution.{one-solution}
-use Rattle.system.proofs.SomeSolution.{solution, solved, solves}
-use Rattle.system.proofs.System as system
+use Rattle.system.specs.System.{part, sequence}
 use Rattle.group.specs.declared.Group.{Group}
 use Rattle.group.specs.Ranges.{NodeOf}
 use Rattle.lengths.specs.Lengths.{packetLength, nodeLetters, repairLetters, repairBuffer}
@@ -25,7 +20,8 @@ use Rattle.matrix.specs.Pieces.{Chosen}
 use Rattle.matrix.specs.Repair.{heldLetter, helperSum, helping, equations}
 use Rattle.matrix.specs.Chain.{Holds, encoded, repaired}
 use Rattle.sequences.proofs.Lists.{run-same, joined-same}
-use Rattle.sequences.proofs.Sequences.{length-runs, runs-at, is-runs}
+use Rattle.sequences.specs.Parts.{partsOf}
+use Rattle.sequences.proofs.Parts.{one-buffer}
 use Rattle.matrix.proofs.Product.{symmetric, length-packets, held-packets}
 use Rattle.matrix.proofs.Reading.{shifts, ordered}
 
@@ -80,7 +76,7 @@ module _ {A : Type 0} (𝓐 : Adding A) (g : Group) (file : List A) where
       (lost : ℕ) (helpers : List ℕ) → NodeOf g lost → Chosen g (g .d) helpers
       → equations 𝓐 g lost helpers (packets 𝓐 g file lost)
       ≡ joined (g .d) (λ u. helping 𝓐 g lost (ranked helpers u) u (packets 𝓐 g file (ranked helpers u)))
-  unfolding equations helping part moved
+  unfolding equations partsOf helping part moved
   honest lost helpers node chosen =
       joined-same (g .d)
       (λ u. run (repairLetters g lost) (part 𝓐 (g .d) (shifts helpers) (sequence (𝓐 .none) (packets 𝓐 g file lost) (repairLetters g lost)) u))
@@ -90,7 +86,7 @@ module _ {A : Type 0} (𝓐 : Adding A) (g : Group) (file : List A) where
       (part 𝓐 (g .d) (shifts helpers) (sequence (𝓐 .none) (packets 𝓐 g file lost) (repairLetters g lost)) u)
       (λ p. helperSum 𝓐 g lost (ranked helpers u) (packets 𝓐 g file (ranked helpers u)) (p + t (ranked helpers u) u))
       (λ p lp hp.
-      honest-letter lost (ranked helpers u) u (p + t (ranked helpers u) u) (node .low) (chosen .falling .from-one u lo hi)))
+      honest-letter lost (ranked helpers u) u (p + t (ranked helpers u) u) (node .low) (chosen .nodes .falling .from-one u lo hi)))
 
 module _ {A : Type 0} (𝓛 : Letters A) (g : Group) (lost : ℕ) (helpers : List ℕ) (chosen : Chosen g (g .d) helpers) where
   -- what the d equations give of one list of packets they give of no other
@@ -98,77 +94,7 @@ module _ {A : Type 0} (𝓛 : Letters A) (g : Group) (lost : ℕ) (helpers : Lis
       (rebuilt other : List A) → length rebuilt ≡ g .d * repairLetters g lost → length other ≡ g .d * repairLetters g lost
       → equations (𝓛 .adding) g lost helpers rebuilt ≡ equations (𝓛 .adding) g lost helpers other → rebuilt ≡ other
   unfolding equations
-  one-repair rebuilt other long long′ same =
-      is-runs (𝓛 .adding .none) (g .d) (repairLetters g lost) (seq other) rebuilt long
-      (λ a p la ha lp hp.
-      one-solution 𝓛 (g .d) (repairLetters g lost) (shifts helpers) (ordered g (g .d) helpers chosen) (seq rebuilt) (seq other)
-      (system.sequences (𝓛 .adding .none) rebuilt (repairLetters g lost)) (system.sequences (𝓛 .adding .none) other (repairLetters g lost))
-      (λ b q lb hb lq hq.
-      sym (runs-at (𝓛 .adding .none) (g .d) (repairLetters g lost) (parts rebuilt) b q lb hb lq hq)
-      ∙ ap (λ xs. sequence (𝓛 .adding .none) xs (repairLetters g lost) b q) same
-      ∙ runs-at (𝓛 .adding .none) (g .d) (repairLetters g lost) (parts other) b q lb hb lq hq)
-      a p la ha)
-      ∙ sym (is-runs (𝓛 .adding .none) (g .d) (repairLetters g lost) (seq other) other long′ (λ a p la ha lp hp. refl))
-    where
-      seq : List A → ℕ → ℕ → A
-      seq xs = sequence (𝓛 .adding .none) xs (repairLetters g lost)
-
-      parts : List A → ℕ → ℕ → A
-      parts xs = part (𝓛 .adding) (g .d) (shifts helpers) (seq xs)
-
-  -- any pieces whatever are the equations of some list of packets
-  module _ (pieces : List A) where
-    -- the solution of the d equations
-    found : ℕ → ℕ → A
-    found =
-        solution 𝓛 (g .d) (repairLetters g lost) (shifts helpers) (ordered g (g .d) helpers chosen)
-        (sequence (𝓛 .adding .none) pieces (repairLetters g lost))
-
-    pub repairable : List A
-    repairable = joined (g .d) (λ a. run (repairLetters g lost) (found a))
-
-    pub length-repairable : length repairable ≡ g .d * repairLetters g lost
-    unfolding repairable
-    length-repairable = length-runs (𝓛 .adding .none) (g .d) (repairLetters g lost) found
-
-    -- it stands in that list, also outside its places
-    found-stands : (a p : ℕ) → 1 ≤ a → a ≤ g .d → sequence (𝓛 .adding .none) repairable (repairLetters g lost) a p ≡ found a p
-    unfolding repairable found
-    found-stands a p la ha =
-        ⊎-elim
-        (λ w. runs-at (𝓛 .adding .none) (g .d) (repairLetters g lost) found a p la ha (w .0) (w .1))
-        (λ out.
-        ⊎-elim
-        (λ z.
-        ap (sequence (𝓛 .adding .none) repairable (repairLetters g lost) a) z
-        ∙ stands .nothing-below a
-        ∙ sym (ap (found a) z ∙ is .nothing-below a))
-        (λ h. stands .nothing-above a p h ∙ sym (is .nothing-above a p h))
-        out)
-        (place-cases (repairLetters g lost) p)
-      where
-        stands : Sequences (𝓛 .adding .none) (repairLetters g lost) (sequence (𝓛 .adding .none) repairable (repairLetters g lost))
-        stands = system.sequences (𝓛 .adding .none) repairable (repairLetters g lost)
-
-        is : Sequences (𝓛 .adding .none) (repairLetters g lost) found
-        is =
-            solved 𝓛 (g .d) (repairLetters g lost) (shifts helpers) (ordered g (g .d) helpers chosen)
-            (sequence (𝓛 .adding .none) pieces (repairLetters g lost))
-
-    pub gives-pieces : length pieces ≡ g .d * repairLetters g lost → equations (𝓛 .adding) g lost helpers repairable ≡ pieces
-    unfolding equations found
-    gives-pieces long =
-        sym
-        (is-runs (𝓛 .adding .none) (g .d) (repairLetters g lost)
-        (part (𝓛 .adding) (g .d) (shifts helpers) (sequence (𝓛 .adding .none) repairable (repairLetters g lost)))
-        pieces long
-        (λ a p la ha lp hp.
-        sym
-        (system.part-same (𝓛 .adding) (g .d) (shifts helpers) (shifts helpers)
-        (sequence (𝓛 .adding .none) repairable (repairLetters g lost)) found a p
-        (λ b lb hb. found-stands b ((p + shifts helpers a a) - shifts helpers a b) lb hb)
-        ∙ solves 𝓛 (g .d) (repairLetters g lost) (shifts helpers) (ordered g (g .d) helpers chosen)
-        (sequence (𝓛 .adding .none) pieces (repairLetters g lost)) a p la ha lp hp)))
+  one-repair = one-buffer 𝓛 (g .d) (repairLetters g lost) (shifts helpers) (ordered g (g .d) helpers chosen)
 
   -- the pieces of d honest helpers are rebuilt into exactly the lost node's packets
   pub rebuilds :

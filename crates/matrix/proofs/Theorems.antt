@@ -19,8 +19,8 @@ use Rattle.matrix.specs.Matrix.{Free}
 use Rattle.matrix.proofs.Files.{asFile-at, length-asFile}
 use Rattle.sequences.proofs.Lists.{is-run}
 use Rattle.matrix.proofs.Product.{shift-rises, packets-at, packet-at, length-packets}
-use Rattle.matrix.proofs.Reading.{one-file}
-use Rattle.matrix.proofs.Rebuilt.{one-repair, repairable, length-repairable, gives-pieces}
+use Rattle.matrix.proofs.Reading.{shifts, ordered, one-file}
+use Rattle.sequences.proofs.Parts.{exactly-one-buffer}
 use Rattle.matrix.proofs.SomeFile.{source, length-source, reads-buffer}
 use Rattle.lengths.proofs.Sizes.{packet-fits}
 
@@ -61,14 +61,8 @@ module _ {A : Type 0} (𝓛 : Letters A) (g : Group) (lost : ℕ) (helpers : Lis
       (pieces : List A) → length pieces ≡ g .d * repairLetters g lost
       → (rebuilt : List A) × (length rebuilt ≡ g .d * repairLetters g lost) × (equations (𝓛 .adding) g lost helpers rebuilt ≡ pieces)
       × ((other : List A) → length other ≡ g .d * repairLetters g lost → equations (𝓛 .adding) g lost helpers other ≡ pieces → other ≡ rebuilt)
-  exactly-one-repair pieces long = (
-    repairable 𝓛 g lost helpers chosen pieces,
-    length-repairable 𝓛 g lost helpers chosen pieces,
-    gives-pieces 𝓛 g lost helpers chosen pieces long,
-    λ other l e.
-        one-repair 𝓛 g lost helpers chosen other (repairable 𝓛 g lost helpers chosen pieces) l (length-repairable 𝓛 g lost helpers chosen pieces)
-        (e ∙ sym (gives-pieces 𝓛 g lost helpers chosen pieces long)),
-  )
+  unfolding equations
+  exactly-one-repair = exactly-one-buffer 𝓛 (g .d) (repairLetters g lost) (shifts helpers) (ordered g (g .d) helpers chosen)
 
 -- a piece lies within its packet
 inside-packet : (g : Group) (i v u : ℕ) → NodeOf g i → Free g v u → t i v + g .l ≤ packetLength g i u

@@ -1,15 +1,14 @@
 -- The pieces that k nodes send, and the collector's buffer: document 01's "Reading k nodes and recovery" (docs/SCHEME.md, 5).
-use mathlib.Core.Path.{_≡_}
 use mathlib.Core.List.{List}
-use Prim.Native.Nat.{ℕ, _+_, _≤_}
-use lib.ListN.{length, take, drop}
+use Prim.Native.Nat.{ℕ, _+_}
+use lib.ListN.{take, drop}
 use Rattle.letters.specs.Algebra.{Adding}
 use Rattle.shifts.specs.Rule.{t}
-use Rattle.system.specs.Order.{Falling}
 use Rattle.group.specs.declared.Group.{Group}
 use Rattle.group.specs.Ranges.{InRange}
 use Rattle.lengths.specs.Lengths.{packetStart}
 use Rattle.sequences.specs.Lists.{run, ranked}
+use Rattle.sequences.specs.Chosen.{ChosenIds}
 use Rattle.matrix.specs.Matrix.{asFile, packetLetter}
 
 -- what a node sends as rank v of column u: that part of its packets, letters t(i,v)+1 .. t(i,v)+L of packet u
@@ -35,6 +34,4 @@ module _ {A : Type 0} (𝓐 : Adding A) (g : Group) (file : List A) (ids : List 
 -- Ids that may be read, or that may help: as many as are wanted, of the group, and strictly falling.
 pub record Chosen (g : Group) (wanted : ℕ) (ids : List ℕ) : Type 0 where
   pub group : InRange g
-  pub many : length ids ≡ wanted
-  pub falling : Falling wanted (ranked ids)
-  pub known : (v : ℕ) → 1 ≤ v → v ≤ wanted → ranked ids v ≤ g .n
+  pub nodes : ChosenIds (g .n) wanted ids

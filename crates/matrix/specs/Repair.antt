@@ -4,12 +4,12 @@ use Prim.Native.Nat.{ℕ, _+_}
 use Rattle.letters.specs.Algebra.{Adding}
 use Rattle.letters.specs.Places.{letter}
 use Rattle.shifts.specs.Rule.{t}
-use Rattle.system.specs.System.{part, sequence}
 use Rattle.system.specs.Order.{ruled}
 use Rattle.group.specs.declared.Group.{Group}
 use Rattle.lengths.specs.Lengths.{packetLength, packetStart, repairLetters}
-use Rattle.sequences.specs.Lists.{run, joined, ranked}
+use Rattle.sequences.specs.Lists.{run, ranked}
 use Rattle.sequences.specs.Moved.{moved}
+use Rattle.sequences.specs.Parts.{partsOf}
 
 module _ {A : Type 0} (𝓐 : Adding A) (g : Group) where
   -- letter p of packet j of what node i holds
@@ -30,9 +30,5 @@ module _ {A : Type 0} (𝓐 : Adding A) (g : Group) where
 
     -- what the d equations, cut to their windows, give of packets of L' letters each: the pieces one after another
     unfoldable pub equations : List ℕ → List A → List A
-    unfolding joined run part sequence repairLetters ranked t
-    equations helpers rebuilt =
-        joined (g .d)
-        (λ u.
-        run (repairLetters g lost)
-        (part 𝓐 (g .d) (ruled t (ranked helpers)) (sequence (𝓐 .none) rebuilt (repairLetters g lost)) u))
+    unfolding partsOf repairLetters ranked t
+    equations helpers rebuilt = partsOf 𝓐 (g .d) (repairLetters g lost) (ruled t (ranked helpers)) rebuilt

@@ -1,13 +1,13 @@
 -- What a refused repair and one that is not refused leave.
-use mathlib.Core.Path.{_≡_, refl, sym, subst, _∙_}
+use mathlib.Core.Path.{_≡_, subst, _∙_}
 use mathlib.Core.List.{List}
-use Prim.Native.Nat.{ℕ}
+use Prim.Native.Nat.{ℕ, _≤_}
 use native.Mathlib.Omega.{arith}
 use lib.Dec.{eqb}
 use lib.ListN.{length}
 use borrow.Author.Tests.{eqb-true}
 use Rattle.letters.specs.Algebra.{xors}
-use Rattle.system.specs.System.{part, sequence}
+use Rattle.system.specs.System.{sequence}
 use Rattle.solving.specs.Solver.{Solved}
 use Rattle.shifts.specs.Rule.{t}
 use Rattle.group.specs.declared.Group.{Group}
@@ -18,7 +18,8 @@ use Rattle.group.specs.Ranges.{nodeRefusal}
 use Rattle.ids.specs.Ids.{idsRefusal}
 use Rattle.lengths.specs.Lengths.{repairLetters, repairBuffer}
 use Rattle.group.proofs.InRange.{node-of}
-use Rattle.group.proofs.Refusals.{first-none, unless-none, numbered, refuses, gives, if-refused, if-fine}
+use Rattle.group.proofs.Refusals.{first-none, unless-none}
+use Rattle.group.proofs.Called.{solves-refused, solves-fine}
 use Rattle.matrix.specs.Repair.{equations}
 use Rattle.matrix.specs.Counts.{repairCount}
 use Rattle.rebuilding.specs.Calls.{apartRefusal, helpersRefusal, repairRefusal, Repaired}
@@ -26,21 +27,14 @@ use Rattle.rebuilding.specs.Steps.Checked.{Helpers}
 use Rattle.sequences.specs.Steps.Rows.{RowsOf}
 use Rattle.matrix.proofs.ChosenIds.{chosen-of}
 use Rattle.matrix.proofs.ChosenRanks.{ranks}
-use Rattle.sequences.proofs.Charted.{charted-part, charted-additions}
-use Rattle.matrix.proofs.Reading.{shifts}
+use Rattle.sequences.proofs.Charted.{charted-parts, charted-additions}
 use Rattle.matrix.proofs.Rebuilt.{same-buffer}
-use Rattle.sequences.proofs.Sequences.{is-runs}
 
 pub repair-refused :
     (g : Group) (lost : ℕ) (helpers before : List ℕ) (r : Refusal) → refusalNumber r ≡ repairRefusal g lost helpers (length before)
     → Repaired g lost helpers before before (Answer.Refused r)
 repair-refused g lost helpers before r e =
-    record {
-      answer = refuses r (repairRefusal g lost helpers (length before)) (repairCount g lost helpers before) e;
-      same-length = refl;
-      holds =
-          if-refused (repairRefusal g lost helpers (length before)) (equations xors g lost helpers before) before (λ z. numbered r (e ∙ z));
-    }
+    solves-refused r (repairRefusal g lost helpers (length before)) (equations xors g lost helpers) (repairCount g lost helpers) before e
 
 pub repair-fine :
     (g : Group) (lost : ℕ) (helpers before after rows : List ℕ) (n count : ℕ) → Helpers g lost helpers → length before ≡ repairBuffer g lost
@@ -49,20 +43,11 @@ pub repair-fine :
 unfolding equations repairCount
 repair-fine g lost helpers before after rows n count h long e size r solved =
     let s = subst (λ m. Solved (g .d) m rows before after count) size solved in
-    record {
-      answer =
-          gives (repairRefusal g lost helpers (length before)) count (repairCount g lost helpers after) e
-          (s .counted ∙ charted-additions t helpers rows r (g .d) (ranks g (g .d) helpers (h .chosen) (omega arith)) (g .d) (omega arith) (omega arith) (repairLetters g lost) (sequence 0 after (repairLetters g lost)));
-      same-length = s .same-length;
-      holds =
-          if-fine (repairRefusal g lost helpers (length before)) (equations xors g lost helpers after) after e
-          ∙ sym
-          (is-runs 0 (g .d) (repairLetters g lost) (part xors (g .d) (shifts helpers) (sequence 0 after (repairLetters g lost))) before
-          (long ∙ same-buffer g lost)
-          (λ a p la ha lp hp.
-          sym (s .parts a p la ha lp hp)
-          ∙ charted-part t helpers rows r (g .d) (ranks g (g .d) helpers (h .chosen) (omega arith)) (g .d) (omega arith) (omega arith) (sequence 0 after (repairLetters g lost)) a p la ha));
-    }
+    let few : g .d ≤ 16 = omega arith in
+    solves-fine (repairRefusal g lost helpers (length before)) count (equations xors g lost helpers) (repairCount g lost helpers) before after e
+    (s .counted ∙ charted-additions t helpers rows r (g .d) (ranks g (g .d) helpers (h .chosen) few) (g .d) (omega arith) (omega arith) (repairLetters g lost) (sequence 0 after (repairLetters g lost)))
+    (s .same-length)
+    (charted-parts t helpers rows r (g .d) (ranks g (g .d) helpers (h .chosen) few) (g .d) (omega arith) (omega arith) (repairLetters g lost) before after (long ∙ same-buffer g lost) (s .parts))
 
 pub helpers-of : (g : Group) (lost : ℕ) (helpers : List ℕ) → helpersRefusal g lost helpers ≡ 0 → Helpers g lost helpers
 unfolding helpersRefusal

@@ -1,5 +1,4 @@
 -- What repair answers, and what it leaves in the buffer, whatever comes in.
-use mathlib.Core.Path.{_≡_}
 use mathlib.Core.List.{List}
 use mathlib.Core.Bool.{not}
 use Prim.Native.Nat.{ℕ}
@@ -8,7 +7,7 @@ use lib.ListN.{length}
 use Rattle.letters.specs.Algebra.{xors}
 use Rattle.group.specs.declared.Group.{Group}
 use Rattle.group.specs.declared.Answer.{Answer}
-use Rattle.group.specs.Answers.{unless, first, ifFine, Answers}
+use Rattle.group.specs.Answers.{unless, first, Solves}
 use Rattle.group.specs.Ranges.{nodeRefusal}
 use Rattle.ids.specs.Ids.{among, idsRefusal}
 use Rattle.lengths.specs.Lengths.{repairBuffer}
@@ -30,7 +29,6 @@ unfolding helpersRefusal
 repairRefusal g lost helpers buffer = first (helpersRefusal g lost helpers) (unless (eqb buffer (repairBuffer g lost)) 5)
 
 -- what the buffer holds at exit solves the d equations for what it held at entry, and the count is what that is worth; a refused call leaves it as it was
-pub record Repaired (g : Group) (lost : ℕ) (helpers before after : List ℕ) (r : Answer) : Type 0 where
-  pub answer : Answers r (repairRefusal g lost helpers (length before)) (repairCount g lost helpers after)
-  pub same-length : length after ≡ length before
-  pub holds : ifFine (repairRefusal g lost helpers (length before)) (equations xors g lost helpers after) after ≡ before
+abbrev pub Repaired : Group → ℕ → List ℕ → List ℕ → List ℕ → Answer → Type 0
+Repaired g lost helpers before after r =
+    Solves (repairRefusal g lost helpers (length before)) (equations xors g lost helpers) (repairCount g lost helpers) before after r

@@ -1,5 +1,5 @@
 -- What a refused recovery and one that is not refused leave.
-use mathlib.Core.Path.{_≡_, refl, _∙_}
+use mathlib.Core.Path.{_≡_}
 use mathlib.Core.List.{List}
 use Prim.Native.Nat.{ℕ}
 use native.Mathlib.Omega.{arith}
@@ -15,7 +15,8 @@ use Rattle.group.specs.Ranges.{groupRefusal}
 use Rattle.ids.specs.Ids.{idsRefusal}
 use Rattle.lengths.specs.Lengths.{fileLetters}
 use Rattle.group.proofs.InRange.{in-range}
-use Rattle.group.proofs.Refusals.{numbered, refuses, gives, first-none, unless-none, if-refused, if-fine}
+use Rattle.group.proofs.Refusals.{first-none, unless-none}
+use Rattle.group.proofs.Called.{solves-refused, solves-fine}
 use Rattle.matrix.specs.Pieces.{reading}
 use Rattle.matrix.specs.Counts.{recoveryCount}
 use Rattle.recovering.specs.Calls.{readersRefusal, recoverRefusal, Recovered}
@@ -46,19 +47,11 @@ pub recover-refused :
     (g : Group) (ids before : List ℕ) (r : Refusal) → refusalNumber r ≡ recoverRefusal g ids (length before)
     → Recovered g ids before before (Answer.Refused r)
 recover-refused g ids before r e =
-    record {
-      answer = refuses r (recoverRefusal g ids (length before)) (recoveryCount g ids before) e;
-      same-length = refl;
-      holds = if-refused (recoverRefusal g ids (length before)) (reading xors g before ids) before (λ z. numbered r (e ∙ z));
-    }
+    solves-refused r (recoverRefusal g ids (length before)) (λ file. reading xors g file ids) (recoveryCount g ids) before e
 
 pub recover-fine :
     (g : Group) (ids before after : List ℕ) (count : ℕ) → Collected g ids before → recoverRefusal g ids (length before) ≡ 0
     → Stage g ids 0 before after count → Recovered g ids before after (Answer.Value count)
 recover-fine g ids before after count collected e stage =
     let w = stage-end g ids before after count collected stage in
-    record {
-      answer = gives (recoverRefusal g ids (length before)) count (recoveryCount g ids after) e (w .1);
-      same-length = stage .same-length;
-      holds = if-fine (recoverRefusal g ids (length before)) (reading xors g after ids) after e ∙ w .0;
-    }
+    solves-fine (recoverRefusal g ids (length before)) count (λ file. reading xors g file ids) (recoveryCount g ids) before after e (w .1) (stage .same-length) (w .0)

@@ -1,5 +1,4 @@
 -- What each call answers, and what it leaves in each lent buffer, whatever comes in.
-use mathlib.Core.Path.{_≡_}
 use mathlib.Core.List.{List}
 use Prim.Native.Nat.{ℕ}
 use lib.Dec.{eqb}
@@ -7,7 +6,7 @@ use lib.ListN.{length}
 use Rattle.letters.specs.Algebra.{xors}
 use Rattle.group.specs.declared.Group.{Group}
 use Rattle.group.specs.declared.Answer.{Answer}
-use Rattle.group.specs.Answers.{unless, first, ifFine, Answers}
+use Rattle.group.specs.Answers.{unless, first, Solves}
 use Rattle.group.specs.Ranges.{groupRefusal}
 use Rattle.ids.specs.Ids.{idsRefusal}
 use Rattle.lengths.specs.Lengths.{fileLetters}
@@ -24,7 +23,6 @@ unfolding readersRefusal
 recoverRefusal g ids buffer = first (readersRefusal g ids) (unless (eqb buffer (fileLetters g)) 5)
 
 -- reading what the buffer holds at exit gives what it held at entry, and the count is what that is worth; a refused call leaves it as it was
-pub record Recovered (g : Group) (ids before after : List ℕ) (r : Answer) : Type 0 where
-  pub answer : Answers r (recoverRefusal g ids (length before)) (recoveryCount g ids after)
-  pub same-length : length after ≡ length before
-  pub holds : ifFine (recoverRefusal g ids (length before)) (reading xors g after ids) after ≡ before
+abbrev pub Recovered : Group → List ℕ → List ℕ → List ℕ → Answer → Type 0
+Recovered g ids before after r =
+    Solves (recoverRefusal g ids (length before)) (λ file. reading xors g file ids) (recoveryCount g ids) before after r

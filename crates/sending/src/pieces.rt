@@ -16,13 +16,8 @@ ghost use Rattle.matrix.specs.Matrix.{Free};
 pub fn piece<'a>(g: Group, node: usize, rank: usize, column: usize, packets: &'a [u8]) -> &'a [u8]
     ensures { λ r. ⌜ Handed g node rank column (packets .entry) r ⌝ }
 {
-    match piece_start(g, node, rank, column, packets.len()) {
-        Answer::Refused(_) => &packets[0..0],
-        Answer::Value(start) => {
-            let end = start + g.l;
-            &packets[start..end]
-        }
-    }
+    let start = piece_start(g, node, rank, column, packets.len());
+    handing::part(start, g.l, packets)
 }
 
 // The companion of `piece`, handed how many letters the packets have: the index at which the piece starts in them, or the refusal.

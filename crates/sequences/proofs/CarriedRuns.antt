@@ -9,6 +9,8 @@ use Rattle.letters.proofs.Sums.{sum-same}
 use Rattle.system.specs.System.{part, sequence}
 use Rattle.sequences.specs.Lists.{run, joined}
 use Rattle.sequences.specs.Moved.{moved}
+use Rattle.sequences.specs.Parts.{partsOf}
+use Rattle.sequences.proofs.Lists.{run-same, joined-same}
 
 module _ {A B : Type 0} (h : A → B) where
   map-append : (xs ys : List A) → map h (xs ++ ys) ≡ map h xs ++ map h ys
@@ -25,7 +27,15 @@ module _ {A B : Type 0} (h : A → B) where
   joined-carried zero F = refl
   joined-carried (suc n) F = map-append (joined n F) (F (suc n)) ∙ ap (λ l. l ++ map h (F (suc n))) (joined-carried n F)
 
+  -- lists that are the map of lists
+  pub lists-carried : (n : ℕ) (F : ℕ → List A) (F′ : ℕ → List B) → ((j : ℕ) → map h (F j) ≡ F′ j) → map h (joined n F) ≡ joined n F′
+  lists-carried n F F′ e = joined-carried n F ∙ joined-same n (λ j. map h (F j)) F′ (λ j lo hi. e j)
+
 module _ {A B : Type 0} (𝓐 : Adding A) (𝓑 : Adding B) (h : A → B) (c : Carries 𝓐 𝓑 h) where
+  -- runs that have the map's letters are the map of runs
+  pub runs-carried : (n : ℕ) (f : ℕ → A) (f′ : ℕ → B) → ((p : ℕ) → h (f p) ≡ f′ p) → map h (run n f) ≡ run n f′
+  runs-carried n f f′ e = run-carried h n f ∙ run-same (𝓑 .none) n (λ p. h (f p)) f′ (λ p lo hi. e p)
+
   pub sequence-carried :
       (xs : List A) (n a p : ℕ) → h (sequence (𝓐 .none) xs n a p) ≡ sequence (𝓑 .none) (map h xs) n a p
   unfolding sequence
@@ -43,3 +53,13 @@ module _ {A B : Type 0} (𝓐 : Adding A) (𝓑 : Adding B) (h : A → B) (c : C
     part-carried t b p =
         sum-carried 𝓐 𝓑 h c s (λ a. x a ((p + t b b) - t b a))
         ∙ sum-same 𝓑 s (λ a. h (x a ((p + t b b) - t b a))) (λ a. y a ((p + t b b) - t b a)) (λ a lo hi. same a ((p + t b b) - t b a))
+
+  pub parts-carried :
+      (s n : ℕ) (t : ℕ → ℕ → ℕ) (xs : List A) → map h (partsOf 𝓐 s n t xs) ≡ partsOf 𝓑 s n t (map h xs)
+  unfolding partsOf
+  parts-carried s n t xs =
+      lists-carried h s (λ b. run n (part 𝓐 s t (sequence (𝓐 .none) xs n) b)) (λ b. run n (part 𝓑 s t (sequence (𝓑 .none) (map h xs) n) b))
+      (λ b.
+      runs-carried n (part 𝓐 s t (sequence (𝓐 .none) xs n) b) (part 𝓑 s t (sequence (𝓑 .none) (map h xs) n) b)
+      (λ p.
+      part-carried s (sequence (𝓐 .none) xs n) (sequence (𝓑 .none) (map h xs) n) (λ a q. sequence-carried xs n a q) t b p))

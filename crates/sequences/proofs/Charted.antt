@@ -1,5 +1,5 @@
 -- Rows of shifts of some nodes are what the solver wants, under any rule with refined increasing differences: falling ids give them their order.
-use mathlib.Core.Path.{_≡_, refl, ap, ap₂, _∙_}
+use mathlib.Core.Path.{_≡_, refl, sym, ap, ap₂, _∙_}
 use mathlib.Core.List.{List}
 use Prim.Native.Nat.{ℕ, _+_, _-_, _*_, _/_, _%_, _^_, _≤_}
 use native.Mathlib.Omega.{arith}
@@ -8,14 +8,16 @@ use Rattle.letters.specs.Algebra.{xors, counts, sum}
 use Rattle.letters.specs.Worth.{worthOf}
 use Rattle.letters.proofs.Sums.{sum-same}
 use Rattle.shifts.specs.Rule.{ShiftRule, Refined}
-use Rattle.system.specs.System.{part}
+use Rattle.system.specs.System.{part, sequence}
 use Rattle.system.specs.Order.{Falling, ruled}
 use Rattle.system.specs.Count.{taken, ofEquation, additions, other, within}
 use Rattle.equation.specs.Rows.{shiftIn, Solvable}
 use Rattle.equation.proofs.Ruled.{ruled-solvable}
 use Rattle.system.proofs.System.{part-shifts}
 use Rattle.sequences.specs.Lists.{ranked}
+use Rattle.sequences.specs.Parts.{partsOf}
 use Rattle.sequences.specs.Steps.Rows.{RowsOf}
+use Rattle.sequences.proofs.Parts.{is-parts}
 
 -- the worth of the additions reads the shifts and the sequences of the ranks 1..s alone
 pub additions-same :
@@ -75,3 +77,12 @@ module _ (rule : ShiftRule) (ids rows : List ℕ) (r : RowsOf rule ids rows) whe
     pub charted-additions :
         (n : ℕ) (x : ℕ → ℕ → ℕ) → additions s n (shiftIn rows) x ≡ additions s n (ruled rule (ranked ids)) x
     charted-additions n x = additions-same s n (shiftIn rows) (ruled rule (ranked ids)) x x same (λ a p la ha. refl)
+
+    -- a buffer whose parts by the rows are what it held before has them by the rule
+    pub charted-parts :
+        (n : ℕ) (before after : List ℕ) → length before ≡ s * n
+        → ((b p : ℕ) → 1 ≤ b → b ≤ s → 1 ≤ p → p ≤ n → part xors s (shiftIn rows) (sequence 0 after n) b p ≡ sequence 0 before n b p)
+        → partsOf xors s n (ruled rule (ranked ids)) after ≡ before
+    charted-parts n before after long parts =
+        is-parts xors s n (ruled rule (ranked ids)) after before long
+        (λ b p lb hb lp hp. sym (charted-part (sequence 0 after n) b p lb hb) ∙ parts b p lb hb lp hp)

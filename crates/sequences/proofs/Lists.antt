@@ -7,7 +7,7 @@ use native.Mathlib.Nat.{eq-or-lt-of-le, le-of-suc-le-suc, le-of-eq, add-zero, ze
 use native.Mathlib.Numerals.{add-one}
 use native.Mathlib.Omega.{arith}
 use lib.ListN.{length, getD, take, drop, length-append, length-take, length-drop, List·getD-append, take-append-drop}
-use lib.Seq.{ext-getD, getD-append-add, getD-take, getD-drop, getD-at}
+use lib.Seq.{ext-getD, getD-append-add, getD-take, getD-drop, getD-at, length-take-le}
 use Rattle.sequences.specs.Lists.{run, joined}
 
 module _ {A : Type 0} where
@@ -35,6 +35,21 @@ module _ {A : Type 0} where
   pub run-same : (none : A) (n : ℕ) (f f′ : ℕ → A) → ((p : ℕ) → 1 ≤ p → p ≤ n → f p ≡ f′ p) → run n f ≡ run n f′
   run-same none n f f′ h =
       is-run none n f′ (run n f) (length-run n f) (λ q l. getD-run n f none q l ∙ h (q + 1) (omega arith) (omega arith))
+
+  -- a part of a run is a run
+  pub run-part :
+      (none : A) (size from n : ℕ) (f : ℕ → A) → from + n ≤ size → take n (drop from (run size f)) ≡ run n (λ p. f (p + from))
+  run-part none size from n f fits =
+      is-run none n (λ p. f (p + from)) (take n (drop from (run size f)))
+      (length-take-le n (drop from (run size f)) (rw length-drop (omega (arith, length-run size f))))
+      (λ q l.
+      getD-take n (drop from (run size f)) q none l
+      ∙ getD-drop from (run size f) q none
+      ∙ getD-run size f none (from + q) (omega arith)
+      ∙ ap f (place q))
+    where
+      place : (q : ℕ) → from + q + 1 ≡ q + 1 + from
+      place q = omega arith
 
   -- where each of the lists F 1, F 2, .. starts: each where the one before it ends
   pub record ListStarts (n : ℕ) (F : ℕ → List A) (start : ℕ → ℕ) : Type 0 where

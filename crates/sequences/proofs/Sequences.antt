@@ -4,7 +4,8 @@ use mathlib.Core.List.{List}
 use Prim.Native.Nat.{ℕ, _+_, _-_, _*_, _≤_, _<_}
 use native.Mathlib.Nat.{add-mul, zero-mul, one-mul}
 use native.Mathlib.Omega.{arith}
-use lib.ListN.{length, getD}
+use lib.ListN.{length, getD, take, drop}
+use lib.Seq.{getD-take, getD-drop}
 use Rattle.system.specs.System.{sequence}
 use Rattle.system.proofs.System.{sequence-inside}
 use Rattle.sequences.specs.Lists.{run, joined}
@@ -61,3 +62,15 @@ module _ {A : Type 0} (none : A) (s n : ℕ) (f : ℕ → ℕ → A) where
 
       index : (q : ℕ) → q ≡ q + 1 - 1
       index q = omega arith
+
+-- a run that was put where sequence a lies is that sequence
+pub placed-run :
+    {A : Type 0} (none : A) (xs : List A) (n a : ℕ) (f : ℕ → A) → take n (drop ((a - 1) * n) xs) ≡ run n f
+    → (p : ℕ) → 1 ≤ p → p ≤ n → sequence none xs n a p ≡ f p
+placed-run none xs n a f is p lp hp =
+    sequence-inside none xs n a p lp hp
+    ∙ sym (getD-drop ((a - 1) * n) xs (p - 1) none)
+    ∙ sym (getD-take n (drop ((a - 1) * n) xs) (p - 1) none (omega arith))
+    ∙ ap (λ ys. getD ys (p - 1) none) is
+    ∙ getD-run n f none (p - 1) (omega arith)
+    ∙ ap f (place-index p lp)

@@ -6,22 +6,21 @@ use mathlib.Core.Logic.{_⊎_, inl, inr}
 use Prim.Native.Nat.{ℕ, _+_, _-_, _*_, _^_, _≤_, _<_}
 use native.Mathlib.Omega.{arith}
 use lib.Dec.{eqb}
-use lib.ListN.{length, getD, take, drop}
-use lib.Seq.{getD-take, getD-drop}
+use lib.ListN.{length, take, drop}
 use borrow.Author.Tests.{eqb-true}
 use denote.Ref.{now}
 use Rattle.letters.specs.Algebra.{bytes, xors}
 use Rattle.letters.specs.Runs.{xored}
-use Rattle.system.specs.System.{sequence}
-use Rattle.system.proofs.System.{sequence-inside}
 use Rattle.group.specs.declared.Group.{Group}
 use Rattle.group.specs.declared.Answer.{Answer}
-use Rattle.group.specs.Answers.{refusalNumber, Outcome, numberOf, valueOf, Answers}
+use Rattle.group.specs.Answers.{refusalNumber, Outcome, numberOf, valueOf}
 use Rattle.group.specs.Ranges.{NodeOf}
 use Rattle.lengths.specs.Lengths.{fileLetters, nodeLetters}
 use Rattle.group.proofs.Refusals.{if-fine}
+use Rattle.group.proofs.Called.{fine-number, fine-value, called-fine}
 use Rattle.sequences.specs.Lists.{run, joined, ranked}
-use Rattle.sequences.proofs.Lists.{length-run, getD-run, joined-same}
+use Rattle.sequences.proofs.Lists.{length-run, joined-same}
+use Rattle.sequences.proofs.Sequences.{placed-run}
 use Rattle.matrix.specs.Matrix.{entryNumber, packets, Free}
 use Rattle.matrix.specs.Pieces.{pieceIn, pieceLetter, piece, reading, Chosen}
 use Rattle.matrix.specs.Repair.{helping, equations}
@@ -33,7 +32,6 @@ use Rattle.matrix.proofs.Theorems.{reading-once, piece-handed}
 use Rattle.matrix.proofs.Rebuilt.{rebuilds, same-buffer}
 use Rattle.matrix.proofs.CostSums.{recovery-cost, repair-cost}
 use Rattle.group.specs.declared.Refusal.the-variants.{Unfinished}
-use Rattle.group.specs.Answers.{Called}
 use Rattle.nodes.specs.Calls.{Encoded}
 use Rattle.sending.specs.Calls.{pieceRefusal, entryRefusal}
 use Rattle.helpers.specs.Calls.{Helped}
@@ -55,17 +53,6 @@ use Rattle.share.proofs.RoundTrip.{written}
 use Rattle.store.specs.Reading.{Collects}
 use Rattle.store.specs.Repairing.{Rebuilds}
 use Rattle.store.specs.Chain.{Has, letters, nothing, State, but, Fresh, lost, rebuilt, Steps, none, then}
-
--- an answer that is no refusal carries its value, and the call's own number is 0
-fine-number : (r : Answer) (q v : ℕ) → Answers r q v → numberOf r ≡ 0 → q ≡ 0
-fine-number r q v a z = sym (a .number) ∙ z
-
-fine-value : (r : Answer) (q v : ℕ) → Answers r q v → numberOf r ≡ 0 → valueOf r ≡ v
-fine-value r q v a z = a .valued ∙ if-fine q v 0 (fine-number r q v a z)
-
--- a call that is not refused leaves what is right
-called-fine : (q v : ℕ) (right before after : List ℕ) (r : Answer) → Called q v right before after r → numberOf r ≡ 0 → after ≡ right
-called-fine q v right before after r c z = c .holds ∙ if-fine q right before (fine-number r q v (c .answer) z)
 
 -- ---- demand 1: a share that was cut short anywhere is never taken as complete
 
@@ -112,7 +99,7 @@ helped-piece g f helper u held before after r c z = called-fine _ _ _ before aft
 module _ (g : Group) (ids : List ℕ) (chosen : Chosen g (g .k) ids) where
   -- rank v is a node, and an entry that is read is free
   node-of-rank : (v : ℕ) → 1 ≤ v → v ≤ g .k → NodeOf g (ranked ids v)
-  node-of-rank v lv hv = record { group = chosen .group; low = chosen .falling .from-one v lv hv; high = chosen .known v lv hv }
+  node-of-rank v lv hv = record { group = chosen .group; low = chosen .nodes .falling .from-one v lv hv; high = chosen .nodes .known v lv hv }
 
   free-entry : (v u : ℕ) → 1 ≤ v → v ≤ g .k → v ≤ u → u ≤ g .d → Free g v u
   free-entry v u lv hv h hu = record { group = chosen .group; row = lv; within = h; upper = hv; column = hu }
@@ -157,21 +144,8 @@ module _ (g : Group) (ids : List ℕ) (chosen : Chosen g (g .k) ids) where
     unfolding reading
     collected-reading =
         is-asFile 0 g (chosen .group) (pieceLetter xors g file ids) buffer (c .long)
-        (λ u v p lu hu lv hv lp hp. entry-letter v u p lv (omega arith) (omega arith) hu lp hp)
-      where
-        back : (p : ℕ) → 1 ≤ p → p - 1 + 1 ≡ p
-        back p lp = omega arith
-
-        entry-letter :
-            (v u p : ℕ) → 1 ≤ v → v ≤ g .k → v ≤ u → u ≤ g .d → 1 ≤ p → p ≤ g .l
-            → sequence 0 buffer (g .l) (entryNumber (g .k) v u) p ≡ pieceLetter xors g file ids v u p
-        entry-letter v u p lv hv h hu lp hp =
-            sequence-inside 0 buffer (g .l) (entryNumber (g .k) v u) p lp hp
-            ∙ sym (getD-drop ((entryNumber (g .k) v u - 1) * g .l) buffer (p - 1) 0)
-            ∙ sym (getD-take (g .l) (drop ((entryNumber (g .k) v u - 1) * g .l) buffer) (p - 1) 0 (omega arith))
-            ∙ ap (λ xs. getD xs (p - 1) 0) (laid v u lv hv h hu)
-            ∙ getD-run (g .l) (pieceLetter xors g file ids v u) 0 (p - 1) (omega arith)
-            ∙ ap (pieceLetter xors g file ids v u) (back p lp)
+        (λ u v p lu hu lv hv lp hp.
+        placed-run 0 buffer (g .l) (entryNumber (g .k) v u) (pieceLetter xors g file ids v u) (laid v u lv (omega arith) (omega arith) hu) p lp hp)
 
 -- read, then recover: the buffer at exit is the file, and the answer is the sum of document 01 (docs/SCHEME.md, 8)
 pub read-then-recover :
@@ -261,7 +235,7 @@ rebuilt-honest g file state f helpers held after r honest stand calls =
     help-then-repair g f helpers file held after r
     (λ u lo hi.
     honest-letters g file (ranked helpers u) (state (ranked helpers u)) (held u) (stand u lo hi)
-    (honest (ranked helpers u) (record { group = chosen .group; low = chosen .falling .from-one u lo hi; high = chosen .known u lo hi })))
+    (honest (ranked helpers u) (record { group = chosen .group; low = chosen .nodes .falling .from-one u lo hi; high = chosen .nodes .known u lo hi })))
     calls .1
   where
     chosen : Chosen g (g .d) helpers

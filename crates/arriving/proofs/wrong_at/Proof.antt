@@ -1,7 +1,7 @@
 -- `wrong_at` meets its contract: the state has the number of the place.
 use mathlib.Core.Path.{ap, _∙_}
 use native.Mathlib.Omega.{arith}
-use Rattle.heads.proofs.Kind1Laws.{total-small}
+use Rattle.heads.proofs.HeadLaws.{total-small}
 use Rattle.arriving.specs.States.{numberAt, stateWith}
 use borrow.Author.Needs.{needs}
 use Rattle.arriving.proofs.wrong_at.Statement.{statement}
@@ -20,7 +20,7 @@ returns : tie.Need-returns
 returns c =
     let s = c .before .before .before .args in
     c .state-with .ensures
-    ∙ ap (λ n. stateWith (s .at) n (s .head)) (c .before .number-at .ensures ∙ ap (λ t. numberAt t (s .at)) (c .before .before .total .ensures))
+    ∙ ap (λ n. stateWith (s .at) n (s .head)) (c .before .number-at .ensures ∙ ap (λ t. numberAt (s .head .kind) t (s .at)) (c .before .before .total .ensures))
 
 pub wrong-at-spec : {M : Type 1} → statement M
 wrong-at-spec = tie.close (tie.spec total-requires number-at-requires state-with-requires returns)

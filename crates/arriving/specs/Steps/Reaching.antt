@@ -7,29 +7,29 @@ use Prim.Native.Nat.{ℕ, _+_, _^_, _≤_, _<_}
 use lib.ListN.{length, getD}
 use Rattle.records.specs.Records.{sizeFor}
 use Rattle.heads.specs.declared.Head.{Head}
-use Rattle.heads.specs.Kind1.{kind1Size, Kind1Numbers}
-use Rattle.heads.specs.Heads.{heads}
+use Rattle.kinds.specs.Kinds.{headSize}
+use Rattle.heads.specs.Heads.{HeadNumbers, heads}
 use Rattle.heads.specs.Steps.Partly.{PartlyIn, headAfter}
 use Rattle.judging.specs.Steps.Search.{standsAt, farthest}
 use Rattle.arriving.specs.declared.Arriving.{Arriving}
 use Rattle.arriving.specs.States.{numberAt, headSoFar}
 
--- so many bytes can stand in a share of so many letters, of which it has some
-pub record Within (letters at : ℕ) : Type 0 where
+-- so many bytes can stand in a share of so many letters, of which it has some, with a head of this kind
+pub record Within (kind letters at : ℕ) : Type 0 where
   pub some : letters ≡ 0 → ⊥
-  pub share : at ≤ sizeFor kind1Size letters
+  pub share : at ≤ sizeFor (headSize kind) letters
 
--- of bytes that come at this index of a share of so many letters these first ones stand, whatever its head
-pub record Stepped (at letters : ℕ) (ys : List ℕ) (count : ℕ) : Type 0 where
+-- of bytes that come at this index of a share of so many letters these first ones stand, whatever its head of this kind
+pub record Stepped (kind at letters : ℕ) (ys : List ℕ) (count : ℕ) : Type 0 where
   pub within : count ≤ length ys
   pub near : at + count ≤ farthest
-  pub stand : (h : Head) → letters ≡ heads .total h → (p : ℕ) → p < count → standsAt h (at + p) (getD ys p 0) ≡ true
+  pub stand : (h : Head) → kind ≡ h .kind → letters ≡ heads .total h → (p : ℕ) → p < count → standsAt h (at + p) (getD ys p 0) ≡ true
 
 -- a head's numbers where so many bytes can stand
 pub record HeadAt (h : Head) (at : ℕ) : Type 0 where
-  pub partly : at < kind1Size → PartlyIn h at
-  pub whole : kind1Size ≤ at → Kind1Numbers h
-  pub share : kind1Size ≤ at → at ≤ sizeFor kind1Size (heads .total h)
+  pub partly : at < headSize (h .kind) → PartlyIn h at
+  pub whole : headSize (h .kind) ≤ at → HeadNumbers h
+  pub share : headSize (h .kind) ≤ at → at ≤ sizeFor (headSize (h .kind)) (heads .total h)
 
 -- some byte can't stand after so many with this head
 abbrev pub CanBeWrong : Head → ℕ → Type 0
@@ -38,13 +38,13 @@ CanBeWrong h at = (byte : ℕ) × (byte < 256) × (standsAt (headAfter h at (byt
 -- bytes lead to these numbers
 pub record Led (h : Head) (at wrong : ℕ) : Type 0 where
   pub numbers : HeadAt h at
-  pub number : (wrong ≡ 0) ⊎ (wrong ≡ numberAt (heads .total h) at)
+  pub number : (wrong ≡ 0) ⊎ (wrong ≡ numberAt (h .kind) (heads .total h) at)
   pub byte : (wrong ≡ 0 → ⊥) → CanBeWrong h at
 
 -- bytes lead to this state, their head is in, and all of them stand
 pub record PastHead (s : Arriving) (letters : ℕ) : Type 0 where
   pub small : s .batch < 2 ^ 32
   pub none : s .wrong ≡ 0
-  pub long : kind1Size ≤ s .at
+  pub long : headSize (s .kind) ≤ s .at
   pub total : letters ≡ heads .total (headSoFar s)
-  pub within : Within letters (s .at)
+  pub within : Within (s .kind) letters (s .at)

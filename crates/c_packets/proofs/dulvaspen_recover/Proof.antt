@@ -1,5 +1,5 @@
 -- `dulvaspen_recover` meets its contract: it tells the answer of the call behind it.
-use Rattle.c_packets.proofs.Told.{recovers-of}
+use Rattle.c_answers.proofs.Told.{solves-told-of}
 use borrow.Author.Needs.{needs}
 use Rattle.c_packets.proofs.dulvaspen_recover.Statement.{statement}
 use Rattle.c_packets.proofs.dulvaspen_recover.Tie as tie
@@ -17,7 +17,7 @@ same-length : tie.Need-same-length
 same-length c = search needs
 
 returns : tie.Need-returns
-returns c = rw (c .before .before .before .before .before .before .of .ensures) at (recovers-of _ _ _ _ _ _ _ _ (c .before .before .before .before .recover .ensures) (c .tell .ensures .0) (c .tell .ensures .1))
+returns c = rw (c .before .before .before .before .before .before .of .ensures) at (solves-told-of _ _ _ _ _ _ _ _ _ (c .before .before .before .before .recover .ensures) (c .tell .ensures .0) (c .tell .ensures .1))
 
 pub dulvaspen-recover-spec : {M : Type 1} → statement M
 dulvaspen-recover-spec = tie.close (tie.spec of-requires recover-requires tell-requires same-length returns)

@@ -1,5 +1,5 @@
 -- `dulvaspen_repair` meets its contract: it tells the answer of the call behind it.
-use Rattle.c_packets.proofs.Told.{repairs-of}
+use Rattle.c_answers.proofs.Told.{solves-told-of}
 use borrow.Author.Needs.{needs}
 use Rattle.c_packets.proofs.dulvaspen_repair.Statement.{statement}
 use Rattle.c_packets.proofs.dulvaspen_repair.Tie as tie
@@ -17,7 +17,7 @@ same-length : tie.Need-same-length
 same-length c = search needs
 
 returns : tie.Need-returns
-returns c = rw (c .before .before .before .before .before .before .of .ensures) at (repairs-of _ _ _ _ _ _ _ _ _ (c .before .before .before .before .repair .ensures) (c .tell .ensures .0) (c .tell .ensures .1))
+returns c = rw (c .before .before .before .before .before .before .of .ensures) at (solves-told-of _ _ _ _ _ _ _ _ _ (c .before .before .before .before .repair .ensures) (c .tell .ensures .0) (c .tell .ensures .1))
 
 pub dulvaspen-repair-spec : {M : Type 1} → statement M
 dulvaspen-repair-spec = tie.close (tie.spec of-requires repair-requires tell-requires same-length returns)

@@ -1,7 +1,7 @@
 -- `judging::judge` meets its contract: where the reader's loops stop tells what the bytes are.
 use mathlib.Core.Path.{refl, sym}
 use native.Mathlib.Omega.{arith}
-use Rattle.heads.proofs.Kind1Laws.{total-small}
+use Rattle.heads.proofs.HeadLaws.{size-told, total-small}
 use Rattle.judging.proofs.Joining.{from-front}
 use Rattle.judging.proofs.Verdicts.{judges}
 use borrow.Author.Needs.{needs}
@@ -18,12 +18,12 @@ first-wrong-requires : tie.Need-first-wrong-requires
 first-wrong-requires c κs = search needs
 
 judged-requires : tie.Need-judged-requires
-judged-requires c κs = (omega arith, omega (arith, total-small (c .before .before .head-in .result)))
+judged-requires c κs = omega (arith, total-small (c .before .before .head-in .result))
 
 returns : tie.Need-returns
 returns c =
     let s = c .before .before .before .before in
-    judges (s .before .args .share .now) (record { below = λ i h. omega (arith, s .shared-slice-known .given i) }) _ (from-front _ _ (rw (sym (c .before .before .before .head-in .ensures)) (c .before .first-wrong .ensures))) _ _ _ _ _ refl
+    judges (s .before .args .share .now) (record { below = λ i h. omega (arith, s .shared-slice-known .given i) }) _ (from-front _ _ (rw (sym (c .before .before .before .head-in .ensures)) (c .before .first-wrong .ensures))) _ _ _ _ _ (size-told _ _ _ refl (c .before .before .before .head-in .ensures))
     (c .before .before .before .head-in .ensures) (c .before .before .total .ensures) refl (c .judged .ensures)
 
 pub judge-spec : {M : Type 1} → statement M

@@ -10,14 +10,14 @@ use Rattle.group.specs.declared.Refusal.the-variants.{Unfinished, Kind, HeadNum
 use Rattle.records.specs.Records.{blockSize, totalLimit, blocks, sizeFor}
 use Rattle.records.specs.Steps.Places.{standsIn, recordAt, offsetAt}
 use Rattle.layout.specs.Steps.Stands.{stands}
-use Rattle.heads.specs.Kind1.{kind1Size, kind1Tests}
-use Rattle.heads.specs.Heads.{heads}
+use Rattle.kinds.specs.Kinds.{headSize}
+use Rattle.heads.specs.Heads.{headTests, heads}
 use Rattle.heads.specs.declared.Head.{Head}
 use Rattle.judging.specs.declared.Judgment.{Judgment}
 
 -- this byte can stand at index p of a share with this head
 unfoldable pub standsAt : Head → ℕ → ℕ → Bool
-standsAt h p byte = standsIn (kind1Tests h byte) (heads .total h) (recordAt kind1Size p) (offsetAt kind1Size p) byte
+standsAt h p byte = standsIn (headTests h) (heads .total h) (recordAt (headSize (h .kind)) p) (offsetAt (headSize (h .kind)) p) byte
 
 -- no byte of a share stands as far as this
 abbrev pub farthest : ℕ

@@ -11,7 +11,7 @@ cast-t3 : tie.Need-cast-t3
 cast-t3 c = search needs
 
 returns : tie.Need-returns
-returns c = let a = c .before .before .args .self in ap (λ g. record { group = g; node = a .node; batch = a .batch }) (c .before .of .ensures)
+returns c = let a = c .before .before .args .self in ap (λ g. record { group = g; node = a .node; batch = a .batch; kind = a .kind }) (c .before .of .ensures)
 
 pub head-so-far-spec : {M : Type 1} → statement M
 head-so-far-spec = tie.close (tie.spec of-requires cast-t3 returns)

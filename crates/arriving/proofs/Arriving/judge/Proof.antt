@@ -4,9 +4,10 @@ use Prim.Native.Nat.{_+_}
 use native.Mathlib.Omega.{arith}
 use borrow.Author.Tests.{not-true, not-false}
 use Rattle.layout.proofs.Judgments.{not-both}
-use Rattle.heads.specs.Kind1.{kind1Size}
+use Rattle.kinds.specs.Kinds.{headSize}
+use Rattle.heads.specs.declared.Head.{Head}
 use Rattle.heads.specs.Heads.{heads}
-use Rattle.heads.proofs.Kind1Laws.{total-small}
+use Rattle.heads.proofs.HeadLaws.{total-small}
 use Rattle.judging.specs.Steps.Search.{judgmentAt}
 use Rattle.arriving.specs.Calls.{JudgesState}
 use Rattle.arriving.proofs.Led.{batch-led, known-led, led-known, number-small}
@@ -37,14 +38,14 @@ add-judged c =
     omega (arith, near _ _ (w .numbers), number-small (c .before .before .before .before .before .before .before .args .self) (led-known _ _ (c .before .before .before .before .head-so-far .ensures) w))
 
 judged-requires : tie.Need-judged-requires
-judged-requires c κs = (omega arith, omega (arith, c .before .before .before .total .ensures, total-small (c .before .before .before .before .head-so-far .result)))
+judged-requires c κs = omega (arith, c .before .before .before .total .ensures, total-small (c .before .before .before .before .head-so-far .result))
 
 returns-3 : tie.Need-returns-3
 returns-3 c =
     let s = c .before .before .before .before .before .before .before .before .args .self in
     let head = c .before .before .before .before .before .head-so-far .ensures in
     judged-right s _ (c .before .before .before .before .total .ensures ∙ ap (heads .total) head) _
-    (c .judged .ensures ∙ ap (λ h. judgmentAt kind1Size h (c .before .before .before .before .total .result) (s .at) (s .at + s .wrong)) head) (led-known s _ head (c .before .before .before .led .ensures .0 (not-false _ (c .before .before .if2 .left))))
+    (c .judged .ensures ∙ ap (λ (h : Head). judgmentAt (headSize (h .kind)) h (c .before .before .before .before .total .result) (s .at) (s .at + s .wrong)) head) (led-known s _ head (c .before .before .before .led .ensures .0 (not-false _ (c .before .before .if2 .left))))
 
 pub judge-spec : {M : Type 1} → statement M
 judge-spec =

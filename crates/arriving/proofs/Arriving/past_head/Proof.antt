@@ -4,7 +4,7 @@ use native.Mathlib.Omega.{arith}
 use borrow.Author.Tests.{not-true, not-false}
 use Rattle.layout.proofs.Judgments.{not-both}
 use Rattle.heads.specs.Heads.{heads}
-use Rattle.heads.proofs.Kind1Laws.{total-small}
+use Rattle.heads.proofs.HeadLaws.{total-small}
 use Rattle.arriving.proofs.Led.{batch-led}
 use Rattle.arriving.proofs.Taking.{forged-stays}
 use Rattle.arriving.proofs.PastHead.{led-within, past-stepped}

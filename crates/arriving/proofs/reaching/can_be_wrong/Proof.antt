@@ -27,7 +27,7 @@ returns-2 c = (
       not-is (c .next-stands2 .result)
       (λ high.
       not-both _
-      (any-stands (s .args .head) (s .args .at) (s .pre) (sym (c .before .before .next-stands .ensures) ∙ not-false _ (c .before .if1 .left)) (sym (c .next-stands2 .ensures) ∙ high) (w .0))
+      (any-stands (s .args .head) (s .args .at) (s .pre) (sym (c .before .before .next-stands .ensures) ∙ not-false _ (c .before .if1 .left)) (sym (c .next-stands2 .ensures) ∙ high) (w .0) (w .1))
       (w .2)),
 )
 

@@ -7,7 +7,7 @@ use borrow.Author.Tests.{not-true, not-false}
 use Rattle.layout.proofs.Judgments.{not-both}
 use Rattle.heads.specs.declared.Head.{Head}
 use Rattle.heads.specs.Heads.{heads}
-use Rattle.heads.proofs.Kind1Laws.{total-small}
+use Rattle.heads.proofs.HeadLaws.{total-small}
 use Rattle.heads.proofs.Answers.{affirmed, refuted}
 use Rattle.arriving.specs.States.{numberAt}
 use borrow.Author.Needs.{needs}
@@ -15,8 +15,8 @@ use Rattle.arriving.proofs.reaching.led.Statement.{statement}
 use Rattle.arriving.proofs.reaching.led.Tie as tie
 
 -- the number of a place, by a T that is the head's
-is-total : (h : Head) (T at n : ℕ) → T ≡ heads .total h → n ≡ numberAt T at → n ≡ numberAt (heads .total h) at
-is-total h T at n e f = f ∙ ap (λ t. numberAt t at) e
+is-total : (h : Head) (T at n : ℕ) → T ≡ heads .total h → n ≡ numberAt (h .kind) T at → n ≡ numberAt (h .kind) (heads .total h) at
+is-total h T at n e f = f ∙ ap (λ t. numberAt (h .kind) t at) e
 
 head-at-requires : tie.Need-head-at-requires
 head-at-requires c κs = search needs
@@ -31,7 +31,7 @@ number-at-requires : tie.Need-number-at-requires
 number-at-requires c κs = omega (arith, total-small (c .before .before .before .args .head))
 
 returns-3 : tie.Need-returns-3
-returns-3 c = refuted (λ w. ⊎-elim (c .before .before .if2 .left) (λ number. c .if3 .taken (number ∙ sym (is-total _ _ _ _ (c .before .before .before .before .before .pre) (c .before .number-at .ensures)))) (w .number))
+returns-3 c = refuted (λ w. ⊎-elim (c .before .before .if2 .left) (λ number. c .if3 .taken (number ∙ sym (is-total (c .before .before .before .before .before .args .head) _ _ _ (c .before .before .before .before .before .pre) (c .before .number-at .ensures)))) (w .number))
 
 can-be-wrong-requires : tie.Need-can-be-wrong-requires
 can-be-wrong-requires c κs = c .before .before .before .before .head-at .ensures .0 (not-false _ (c .before .before .before .if1 .left))
@@ -42,7 +42,7 @@ returns-4 c =
       λ e.
           record {
             numbers = c .before .before .before .before .before .head-at .ensures .0 (not-false _ (c .before .before .before .before .if1 .left));
-            number = inr (c .before .if3 .left ∙ is-total _ _ _ _ (c .before .before .before .before .before .before .pre) (c .before .before .number-at .ensures));
+            number = inr (c .before .if3 .left ∙ is-total (c .before .before .before .before .before .before .args .head) _ _ _ (c .before .before .before .before .before .before .pre) (c .before .before .number-at .ensures));
             byte = λ n. c .can-be-wrong .ensures .0 e;
           },
       λ w. c .can-be-wrong .ensures .1 (w .byte some),

@@ -1,11 +1,10 @@
 -- `rows::shift_rows` meets its contract: after i turns the first i shifts stand in their places.
-use mathlib.Core.Path.{_≡_, refl, _∙_}
+use mathlib.Core.Path.{_≡_, refl}
 use Prim.Native.Nat.{ℕ, _+_, _-_, _*_, _/_, _%_, _≤_, _<_}
 use lib.ListN.{length, getD, length-set}
-use lib.Seq.{getD-set-same, getD-set-other}
-use borrow.Author.Count.{below-more}
 use borrow.Author.Needs.{needs}
 use Rattle.shifts.specs.Rule.{t}
+use Rattle.sums.proofs.Filled.{filled-more}
 use native.Mathlib.Omega.{arith}
 use Rattle.sequences.proofs.rows.shift_rows.Statement.{statement}
 use Rattle.sequences.proofs.rows.shift_rows.Tie as tie
@@ -55,14 +54,8 @@ loop-less : tie.Need-loop-less Inv-loop μ-loop
 loop-less c = omega arith
 
 loop-again : tie.Need-loop-again Inv-loop μ-loop
-loop-again c = let l = c .before .before .before .before .loop in (
-  l .inv .0,
-  omega arith,
-  simp length-set (l .inv .2),
-  below-more _ _
-      (λ j h. getD-set-other (l .rows) (l .i) j (c .shift-in .result) 0 (λ e. omega arith) ∙ l .inv .3 j h)
-      (getD-set-same (l .rows) (l .i) (c .shift-in .result) 0 (omega arith) ∙ c .shift-in .ensures),
-)
+loop-again c = let l = c .before .before .before .before .loop in
+    (l .inv .0, omega arith, simp length-set (l .inv .2), filled-more (l .rows) (l .i) _ _ (omega arith) (l .inv .3) (c .shift-in .ensures))
 
 returns : tie.Need-returns Inv-loop μ-loop
 returns c = let l = c .before .loop in

@@ -1,0 +1,2 @@
+-- What the exported recovery of previews promises.
+pub mod Previews

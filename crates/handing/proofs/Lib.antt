@@ -1,0 +1,2 @@
+-- What a part that is handed back tells.
+pub mod Handed

@@ -1,0 +1,2 @@
+-- A part of what a caller lent.
+pub mod Parts

@@ -1,0 +1,2 @@
+-- The promises about calls.
+pub mod Promises

@@ -1,0 +1,2 @@
+-- Why encoding a preview keeps its contract.
+mod Packets

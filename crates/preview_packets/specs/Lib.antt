@@ -1,0 +1,3 @@
+-- What a node of previews holds.
+pub mod Calls
+pub mod Steps

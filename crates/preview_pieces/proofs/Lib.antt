@@ -1,0 +1,3 @@
+-- What the checks of pieces of previews let through, and that the empty part means refused.
+pub mod Called
+pub mod Handing

@@ -1,0 +1,2 @@
+-- What a node of previews sends.
+pub mod Calls

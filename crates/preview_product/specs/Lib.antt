@@ -1,0 +1,2 @@
+-- The code of previews.
+pub mod Preview

@@ -1,0 +1,3 @@
+-- Why recovering a file of previews keeps its contract.
+pub mod Outcomes
+pub mod RecoverCalls

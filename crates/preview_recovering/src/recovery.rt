@@ -1,0 +1,45 @@
+// Recovery of previews: the file from the pieces of k nodes.
+use group::Answer;
+use group::Check;
+use group::Group;
+use group::Refusal;
+use sequences::rows;
+ghost use mathlib.Core.Path.{_≡_};
+ghost use Rattle.group.specs.Answers.{checkNumber};
+ghost use Rattle.preview_recovering.specs.Calls.{previewReadersRefusal, PreviewRecovered};
+ghost use Rattle.preview_recovering.specs.Steps.Checked.{CheckedReaders};
+
+// Turns the k pieces in `buffer`, L letters each, one after another by rank, into the file, in place: the one file that has those pieces, for any letters whatever.
+// The answer is the number of letter additions. Refusals: 1, 2, 3 for an id outside 1..n or another number of ids than k,
+// 4 for ids that don't fall strictly, 5 for a buffer of another length than k*L. A refused call leaves `buffer` as it was.
+pub fn recover(g: Group, ids: &[usize], buffer: &mut [u8]) -> Answer
+    ensures { λ r. ⌜ PreviewRecovered g (now (ids .entry)) (now (buffer .entry)) (now (buffer .exit)) r ⌝ }
+{
+    match check_readers(g, ids) {
+        Check::Refused(refusal) => Answer::Refused(refusal),
+        Check::Fine => recover_exact(g, ids, buffer),
+    }
+}
+
+// The group and the ids: refusals 1 to 4.
+fn check_readers(g: Group, ids: &[usize]) -> Check
+    ensures { λ r. ⌜ checkNumber r ≡ previewReadersRefusal g (now (ids .entry)) ⌝ }
+{
+    match preview_numbers::checks::group(g) {
+        Check::Refused(refusal) => Check::Refused(refusal),
+        Check::Fine => ids::check(g, g.k, ids),
+    }
+}
+
+// The same once these are right: refusal 5, and then the solver has the whole buffer.
+fn recover_exact(g: Group, ids: &[usize], buffer: &mut [u8]) -> Answer
+    requires { ⌜ CheckedReaders g (now ids) ⌝ }
+    ensures { λ r. ⌜ PreviewRecovered g (now (ids .entry)) (now (buffer .entry)) (now (buffer .exit)) r ⌝ }
+{
+    let wanted = preview_numbers::known::file(g);
+    if buffer.len() != wanted {
+        return Answer::Refused(Refusal::Input);
+    }
+    let rows = rows::preview_rows(ids);
+    Answer::Value(solving::solve(buffer, g.k, g.l, &rows))
+}
