@@ -1,6 +1,6 @@
 /* Each call of the library beside its plain C version, on the same letters, compared. With the word `time` each is timed; with `count`, under
- * valgrind's callgrind or under bench/count.c, its instructions are counted. With the word `packets` after it, encode, recover, help and repair alone.
- * bench/run makes the tables. */
+ * valgrind's callgrind or under bench/count.c, its instructions are counted. With the word `packets` after it, encode, recover, help and repair alone,
+ * and encode and recover of previews. bench/run makes the tables. */
 #include "../include/dulvaspen.h"
 #include "plain.h"
 /* run addition alone, of the crate bench_runs */
@@ -21,8 +21,9 @@ extern uint64_t bench_add_within(uint8_t *buffer, uint64_t buffer_len, uint64_t 
 #endif
 
 static uint8_t file[1 << 20], got[1 << 20], want[1 << 20], in_blocks[1 << 20], in_tiles[1 << 20], input[1 << 20], node_packets[17][1 << 17], share[1 << 17];
-static uint64_t held[17], count_ours, count_plain, count_blocks, count_tiles, head_ours[6], head_plain[6], state[DULVASPEN_ARRIVING_WORDS];
+static uint64_t held[17], count_ours, count_plain, count_blocks, count_tiles, head_ours[HEAD], head_plain[HEAD], state[DULVASPEN_ARRIVING_WORDS];
 static group g;
+_Static_assert(HEAD == DULVASPEN_HEAD_NUMBERS, "plain C tells another head");
 
 static void stop(const char *what, uint64_t r) { fprintf(stderr, "bench: %s went wrong (%llu)\n", what, (unsigned long long)r); exit(1); }
 
@@ -186,19 +187,19 @@ static void repair(void) {
 static uint64_t arrive(uint64_t bytes, uint64_t burst) {
     uint64_t words = DULVASPEN_ARRIVING_WORDS, r = dulvaspen_arriving_start(state, words);
     for (uint64_t at = 0; at < bytes; at += burst) r |= dulvaspen_arriving_take(state, words, share + at, bytes - at < burst ? bytes - at : burst);
-    return r | dulvaspen_arriving_judge(state, words, head_ours, 6);
+    return r | dulvaspen_arriving_judge(state, words, head_ours, HEAD);
 }
 
 /* The judges must agree on every cut of a share and on every byte of it that is changed. */
 static void damage(uint64_t bytes) {
     for (uint64_t cut = 0; cut <= bytes; cut++)
-        if (dulvaspen_judge_share(share, cut, head_ours, 6) != plain_judge(share, cut, head_plain) || arrive(cut, 7) != plain_judge(share, cut, head_plain))
+        if (dulvaspen_judge_share(share, cut, head_ours, HEAD) != plain_judge(share, cut, head_plain) || arrive(cut, 7) != plain_judge(share, cut, head_plain))
             stop("judging a cut share", cut);
     for (uint64_t at = 0; at <= bytes; at++)
         for (int change = 1; change < 256; change <<= 1) {
             share[at] ^= (uint8_t)change;
             uint64_t whole = at < bytes ? bytes : bytes + 1;
-            if (dulvaspen_judge_share(share, whole, head_ours, 6) != plain_judge(share, whole, head_plain) || arrive(whole, 1 + at) != plain_judge(share, whole, head_plain))
+            if (dulvaspen_judge_share(share, whole, head_ours, HEAD) != plain_judge(share, whole, head_plain) || arrive(whole, 1 + at) != plain_judge(share, whole, head_plain))
                 stop("judging a changed share", at);
             share[at] ^= (uint8_t)change;
         }
@@ -207,7 +208,7 @@ static void damage(uint64_t bytes) {
 /* A share in bursts, beside the library's own judge of all its bytes. */
 #define ARRIVING(NAME, BURST) do { \
     MEASURE(NAME, "ours", got, bytes, arrive(bytes, BURST)); \
-    MEASURE(NAME, "judge", want, bytes, dulvaspen_judge_share(share, bytes, head_plain, 6)); \
+    MEASURE(NAME, "judge", want, bytes, dulvaspen_judge_share(share, bytes, head_plain, HEAD)); \
     if (memcmp(head_ours, head_plain, sizeof head_ours)) stop(NAME, 98); \
     compare(NAME, bytes, 0); } while (0)
 
@@ -218,11 +219,11 @@ static void shares(void) {
     MEASURE("write", "plain", want, bytes, plain_write(g, node, 7, node_packets[node], held[node], want, bytes));
     compare("write", bytes, 0);
     memcpy(share, got, bytes);
-    MEASURE("read", "ours", got, held[node], dulvaspen_read_share(share, bytes, got, held[node], head_ours, 6));
+    MEASURE("read", "ours", got, held[node], dulvaspen_read_share(share, bytes, got, held[node], head_ours, HEAD));
     MEASURE("read", "plain", want, held[node], plain_read(share, bytes, want, held[node], head_plain));
     if (memcmp(head_ours, head_plain, sizeof head_ours)) stop("read", 98);
     compare("read", held[node], 0);
-    MEASURE("judge", "ours", got, bytes, dulvaspen_judge_share(share, bytes, head_ours, 6));
+    MEASURE("judge", "ours", got, bytes, dulvaspen_judge_share(share, bytes, head_ours, HEAD));
     MEASURE("judge", "plain", want, bytes, plain_judge(share, bytes, head_plain));
     if (memcmp(head_ours, head_plain, sizeof head_ours)) stop("judge", 98);
     compare("judge", bytes, 0);
@@ -233,8 +234,72 @@ static void shares(void) {
     if (g.l == 64) damage(bytes);
 }
 
+/* ---- previews: g.d is 0 ---- */
+
+/* The packets of all nodes in node_packets, by the library, compared with plain C's; and in input the pieces of the k highest nodes, which stand in ids. */
+static void preview_pieces(uint64_t letters, uint64_t *ids) {
+    for (uint64_t i = 1; i <= g.n; i++) {
+        uint64_t r = dulvaspen_preview_packet_letters(g.n, g.k, g.l, i, &held[i]);
+        if (!r) r = dulvaspen_preview_encode(g.n, g.k, g.l, i, file, letters, node_packets[i], held[i]);
+        if (!r) r = plain_preview_encode(g, i, file, letters, got, held[i]);
+        if (!r) r = plain_preview_encode_blocks(g, i, file, letters, want, held[i]);
+        if (r || memcmp(node_packets[i], got, held[i]) || memcmp(node_packets[i], want, held[i])) stop("encode of a preview", g.l);
+    }
+    for (uint64_t v = 1, from, to; v <= g.k; v++) {
+        ids[v - 1] = g.n + 1 - v;
+        uint64_t r = dulvaspen_preview_piece(g.n, g.k, g.l, ids[v - 1], v, node_packets[ids[v - 1]], held[ids[v - 1]], &from);
+        if (!r) r = dulvaspen_preview_entry(g.n, g.k, g.l, v, &to);
+        if (r) stop("a preview's piece", r);
+        memcpy(input + to, node_packets[ids[v - 1]] + from, g.l);
+    }
+}
+
+/* At odd lengths, with blocks and without, from pieces and from any letters, plain C must leave what the library does, and count what it does. */
+static void odd_previews(void) {
+    static const uint64_t lengths[] = {1, 2, 63, 127, 129, 333, 1000};
+    uint64_t letters, ids[16];
+    for (int i = 0; i < 7; i++)
+        for (int honest = 0; honest < 2; honest++) {
+            g.l = lengths[i];
+            dulvaspen_preview_file_letters(g.n, g.k, g.l, &letters);
+            preview_pieces(letters, ids);
+            if (!honest) memcpy(input, file + 7, letters);
+            memcpy(got, input, letters);
+            memcpy(want, input, letters);
+            memcpy(in_tiles, input, letters);
+            if (dulvaspen_preview_recover(g.n, g.k, g.l, ids, g.k, got, letters, &count_ours) || plain_preview_recover(g, ids, g.k, want, letters, &count_plain)
+                || plain_preview_recover_tiles(g, ids, g.k, in_tiles, letters, &count_tiles) || count_ours != count_plain || count_ours != count_tiles
+                || memcmp(got, want, letters) || memcmp(got, in_tiles, letters) || (honest && memcmp(got, file, letters))) stop("recover of a preview", g.l);
+        }
+}
+
+static void previews(void) {
+    uint64_t letters, ids[16], node = g.n / 2;
+    dulvaspen_preview_file_letters(g.n, g.k, g.l, &letters);
+    preview_pieces(letters, ids);
+    MEASURE("preview-encode", "ours", got, held[node], dulvaspen_preview_encode(g.n, g.k, g.l, node, file, letters, got, held[node]));
+    MEASURE("preview-encode", "plain", want, held[node], plain_preview_encode(g, node, file, letters, want, held[node]));
+    MEASURE("preview-encode", "blocks", in_blocks, held[node], plain_preview_encode_blocks(g, node, file, letters, in_blocks, held[node]));
+    if (memcmp(got, in_blocks, held[node])) stop("encode of a preview in blocks", 98);
+    compare("preview-encode", held[node], g.k * g.l);
+    MEASURE("preview-recover", "ours", got, letters, dulvaspen_preview_recover(g.n, g.k, g.l, ids, g.k, got, letters, &count_ours));
+    MEASURE("preview-recover", "plain", want, letters, plain_preview_recover(g, ids, g.k, want, letters, &count_plain));
+    MEASURE("preview-recover", "tiles", in_tiles, letters, plain_preview_recover_tiles(g, ids, g.k, in_tiles, letters, &count_tiles));
+    if (count_ours != count_plain || count_ours != count_tiles || memcmp(got, file, letters) || memcmp(got, in_tiles, letters)) stop("recover of a preview", 98);
+    compare("preview-recover", letters, count_ours);
+}
+
+/* A preview's share: plain C must read from it what was written, and the judges agree on every cut of it and on every byte that is changed. */
+static void preview_share(void) {
+    uint64_t node = g.n / 2, bytes, r = dulvaspen_preview_share_bytes(g.n, g.k, g.l, node, &bytes);
+    if (!r) r = dulvaspen_preview_write_share(g.n, g.k, g.l, node, 7, node_packets[node], held[node], share, bytes);
+    if (!r) r = plain_read(share, bytes, want, held[node], head_plain);
+    if (r || memcmp(want, node_packets[node], held[node]) || head_plain[2] || head_plain[6] != DULVASPEN_KIND_PREVIEW) stop("a preview's share", r);
+    damage(bytes);
+}
+
 int main(int argc, char **argv) {
-    static const group groups[] = {{6, 3, 4, 0}, {16, 4, 6, 0}, {16, 10, 12, 0}, {16, 15, 15, 0}};
+    static const group groups[] = {{6, 3, 4, 0}, {16, 4, 6, 0}, {16, 10, 12, 0}, {16, 15, 15, 0}}, of_previews[] = {{6, 3, 0, 0}, {16, 10, 0, 0}, {16, 16, 0, 0}};
     static const uint64_t lengths[] = {64, 4096}, run_lengths[] = {7, 64, 100, 4096};
     uint64_t letters;
     int packets_alone = argc == 3 && !strcmp(argv[2], "packets");
@@ -257,6 +322,14 @@ int main(int argc, char **argv) {
             recovery(letters);
             repair();
             if (!packets_alone) shares();
+        }
+    for (int i = 0; i < 3 && !packets_alone; i++) { g = of_previews[i]; odd_previews(); }
+    for (int i = 0; i < 3; i++)
+        for (int j = 0; j < 2; j++) {
+            g = of_previews[i];
+            g.l = lengths[j];
+            previews();
+            if (!packets_alone && !j) preview_share();
         }
     return 0;
 }

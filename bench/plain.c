@@ -173,6 +173,28 @@ static inline void sum_blocks(int on, uint8_t *restrict to, uint64_t letters, co
     }
 }
 
+/* to = the sum of the runs: laid into its caller, or a function of its own, in which gcc 12 moves fewer registers about. Each caller has the one with which
+ * it takes fewer instructions. */
+typedef void summer(uint8_t *restrict to, uint64_t letters, const uint8_t *const *from, uint64_t runs);
+static inline void sum_here(uint8_t *restrict to, uint64_t letters, const uint8_t *const *from, uint64_t runs) { sum_blocks(0, to, letters, from, runs); }
+__attribute__((noinline)) static void sum_apart(uint8_t *restrict to, uint64_t letters, const uint8_t *const *from, uint64_t runs) {
+    sum_blocks(0, to, letters, from, runs);
+}
+
+/* One packet: the sum of runs of l letters, each moved right by a step more than the one before it; zeros behind it. */
+static inline void lay_packet(summer *sum, uint8_t *restrict packet, uint64_t length, uint64_t step, const uint8_t **run, uint64_t runs, uint64_t l) {
+    uint64_t start = step * (runs - 1), middle = blocks(start, l), stop = start + middle;
+    memset(packet, 0, middle ? start : length);
+    if (middle) memset(packet + stop, 0, length - stop);
+    for (uint64_t u = 0, at = 0; u < runs; u++, at += step) {
+        if (!middle) { add(packet + at, run[u], l); continue; }
+        add(packet + at, run[u], start - at);
+        add(packet + stop, run[u] + (stop - at), at + l - stop);
+        run[u] += start - at;
+    }
+    if (middle) sum(packet + start, middle, run, runs);
+}
+
 uint64_t plain_encode_blocks(group g, uint64_t node, const uint8_t *file, uint64_t file_len, uint8_t *packets, uint64_t packets_len) {
     if (g.l < BLOCK) return plain_encode(g, node, file, file_len, packets, packets_len);
     uint64_t r = check_node(g, node), length = piece_letters(g, node);
@@ -180,26 +202,12 @@ uint64_t plain_encode_blocks(group g, uint64_t node, const uint8_t *file, uint64
     if (file_len != file_letters(g)) return 5;
     if (packets_len != node_letters(g, node)) return 6;
     for (uint64_t j = 1; j <= g.d; j++, packets += length) {
-        uint64_t rows = j > g.k ? g.k : g.d, start = t(node, rows), middle = blocks(start, g.l), stop = start + middle;
-        const uint8_t *from[16];
-        memset(packets, 0, middle ? start : length);
-        if (middle) memset(packets + stop, 0, length - stop);
-        for (uint64_t u = 1; u <= rows; u++) {
-            const uint8_t *run = file + (u <= j ? entry(g, u, j) : entry(g, j, u));
-            uint64_t at = t(node, u);
-            if (!middle) { add(packets + at, run, g.l); continue; }
-            add(packets + at, run, start - at);
-            add(packets + stop, run + (stop - at), at + g.l - stop);
-            from[u - 1] = run + (start - at);
-        }
-        if (middle) sum_blocks(0, packets + start, middle, from, rows);
+        uint64_t rows = j > g.k ? g.k : g.d;
+        const uint8_t *run[16];
+        for (uint64_t u = 1; u <= rows; u++) run[u - 1] = file + (u <= j ? entry(g, u, j) : entry(g, j, u));
+        lay_packet(sum_here, packets, length, node - 1, run, rows, g.l);
     }
     return 0;
-}
-
-/* A function of its own, in which gcc 12 moves fewer registers about. */
-__attribute__((noinline)) static void sum_of_packets(uint8_t *restrict to, uint64_t letters, const uint8_t *const *from, uint64_t runs) {
-    sum_blocks(0, to, letters, from, runs);
 }
 
 uint64_t plain_help_blocks(group g, uint64_t lost, uint64_t helper, uint64_t rank, const uint8_t *packets, uint64_t packets_len, uint8_t *piece,
@@ -223,7 +231,7 @@ uint64_t plain_help_blocks(group g, uint64_t lost, uint64_t helper, uint64_t ran
         add(piece + stop, run + (stop - at), least(piece_len, length + lead - skip) - stop);
         from[j - 1] = run + (start - at);
     }
-    sum_of_packets(piece + start, middle, from, g.d);
+    sum_apart(piece + start, middle, from, g.d);
     return 0;
 }
 
@@ -351,6 +359,58 @@ uint64_t plain_repair_tiles(group g, uint64_t lost, const uint64_t *helpers, uin
     return repair_by(solve_tiles, g, lost, helpers, helpers_len, buffer, buffer_len, count);
 }
 
+/* ---- previews: the same sums and the same solvers, with other shifts. Their t(i,j) = i(j-1) is the t of node i + 1 above ---- */
+static uint64_t preview_letters(group g, uint64_t node) { return g.l + t(node + 1, g.k); }
+
+static uint64_t check_previews(group g) {
+    if (g.n < 3 || g.n > 16 || g.k < 2 || g.k > g.n || g.d) return 1;
+    return g.l < 1 || g.l > 4096 ? 2 : 0;
+}
+
+static uint64_t check_preview_encode(group g, uint64_t node, uint64_t file_len, uint64_t packet_len) {
+    uint64_t r = check_previews(g);
+    if (r) return r;
+    if (node < 1 || node > g.n) return 3;
+    if (file_len != g.k * g.l) return 5;
+    return packet_len != preview_letters(g, node) ? 6 : 0;
+}
+
+uint64_t plain_preview_encode(group g, uint64_t node, const uint8_t *file, uint64_t file_len, uint8_t *packet, uint64_t packet_len) {
+    uint64_t r = check_preview_encode(g, node, file_len, packet_len);
+    if (r) return r;
+    memset(packet, 0, packet_len);
+    for (uint64_t u = 1; u <= g.k; u++) add(packet + t(node + 1, u), file + (u - 1) * g.l, g.l);
+    return 0;
+}
+
+uint64_t plain_preview_encode_blocks(group g, uint64_t node, const uint8_t *file, uint64_t file_len, uint8_t *packet, uint64_t packet_len) {
+    if (g.l < BLOCK) return plain_preview_encode(g, node, file, file_len, packet, packet_len);
+    uint64_t r = check_preview_encode(g, node, file_len, packet_len);
+    if (r) return r;
+    const uint8_t *run[16];
+    for (uint64_t u = 0; u < g.k; u++) run[u] = file + u * g.l;
+    lay_packet(sum_apart, packet, packet_len, node, run, g.k, g.l);
+    return 0;
+}
+
+static inline uint64_t preview_recover_by(solver *solved, group g, const uint64_t *ids, uint64_t ids_len, uint8_t *buffer, uint64_t buffer_len, uint64_t *count) {
+    uint64_t next[16], r = check_previews(g);
+    if (!r) r = check_ids(g, g.k, ids, ids_len);
+    if (!r && buffer_len != g.k * g.l) r = 5;
+    if (r) return r;
+    for (uint64_t v = 0; v < g.k; v++) next[v] = ids[v] + 1;
+    *count = solved(buffer, g.k, g.l, next);
+    return 0;
+}
+
+uint64_t plain_preview_recover(group g, const uint64_t *ids, uint64_t ids_len, uint8_t *buffer, uint64_t buffer_len, uint64_t *count) {
+    return preview_recover_by(solve, g, ids, ids_len, buffer, buffer_len, count);
+}
+
+uint64_t plain_preview_recover_tiles(group g, const uint64_t *ids, uint64_t ids_len, uint8_t *buffer, uint64_t buffer_len, uint64_t *count) {
+    return preview_recover_by(solve_tiles, g, ids, ids_len, buffer, buffer_len, count);
+}
+
 /* ---- shares: block by block, with memcpy ---- */
 static void put(uint8_t *to, uint64_t value, int bytes) { for (int i = 0; i < bytes; i++) to[i] = (uint8_t)(value >> 8 * i); }
 static uint64_t get(const uint8_t *from, int bytes) { uint64_t v = 0; for (int i = 0; i < bytes; i++) v |= (uint64_t)from[i] << 8 * i; return v; }
@@ -369,16 +429,17 @@ uint64_t plain_write(group g, uint64_t node, uint32_t batch, const uint8_t *pack
     return 0;
 }
 
-/* The head, each number tested as soon as it is in: 0, 7 where the bytes end before the head does, 8 for another kind, or 9. */
+/* The head, each number tested as soon as it is in: 0, 7 where the bytes end before the head does, 8 for another kind than 1 and 5, or 9. */
 static uint64_t judge_head(const uint8_t *share, uint64_t len, group *g, uint64_t *node) {
     if (len < 1) return 7;
-    if (share[0] != 1) return 8;
+    if (share[0] != 1 && share[0] != 5) return 8;
+    int preview = share[0] == 5;
     if (len < 2) return 7;
     if (share[1] < 3 || share[1] > 16) return 9;
     if (len < 3) return 7;
-    if (share[2] < 2 || share[2] >= share[1]) return 9;
+    if (share[2] < 2 || share[2] >= share[1] + preview) return 9;
     if (len < 4) return 7;
-    if (share[3] < share[2] || share[3] >= share[1]) return 9;
+    if (preview ? share[3] : share[3] < share[2] || share[3] >= share[1]) return 9;
     if (len < 5) return 7;
     if (share[4] < 1 || share[4] > share[1]) return 9;
     if (len < 7) return 7;
@@ -393,7 +454,7 @@ uint64_t plain_judge(const uint8_t *share, uint64_t share_len, uint64_t *head) {
     group g;
     uint64_t node, r = judge_head(share, share_len, &g, &node);
     if (r) return r;
-    uint64_t letters = node_letters(g, node), left = letters;
+    uint64_t letters = g.d ? node_letters(g, node) : preview_letters(g, node), left = letters;
     uint64_t at = 11;
     for (; left >= 64; left -= 64, at += 65) {
         if (at >= share_len) return 7;
@@ -412,15 +473,15 @@ uint64_t plain_judge(const uint8_t *share, uint64_t share_len, uint64_t *head) {
         if (share[at] != last[i]) return i ? 11 : 8;
     }
     if (at < share_len) return 12;
-    head[0] = g.n; head[1] = g.k; head[2] = g.d; head[3] = node; head[4] = g.l; head[5] = get(share + 7, 4);
+    head[0] = g.n; head[1] = g.k; head[2] = g.d; head[3] = node; head[4] = g.l; head[5] = get(share + 7, 4); head[6] = share[0];
     return 0;
 }
 
 uint64_t plain_read(const uint8_t *share, uint64_t share_len, uint8_t *packets, uint64_t packets_len, uint64_t *head) {
-    uint64_t found[6], r = plain_judge(share, share_len, found), left = packets_len;
+    uint64_t found[HEAD], r = plain_judge(share, share_len, found), left = packets_len;
     if (r) return r;
     group g = {found[0], found[1], found[2], found[4]};
-    if (packets_len != node_letters(g, found[3])) return 6;
+    if (packets_len != (g.d ? node_letters(g, found[3]) : preview_letters(g, found[3]))) return 6;
     memcpy(head, found, sizeof found);
     for (share += 11; left >= 64; left -= 64, packets += 64, share += 65) memcpy(packets, share + 1, 64);
     memcpy(packets, share + 1, left);

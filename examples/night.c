@@ -42,7 +42,7 @@ static void load(uint64_t node) {
     uint64_t head[DULVASPEN_HEAD_NUMBERS];
     must(dulvaspen_read_share(disk[node], bytes_of(node), packets, letters_of(node), head, DULVASPEN_HEAD_NUMBERS), "read_share");
     expect(head[0] == N && head[1] == K && head[2] == D && head[4] == L, "a share of another group");
-    expect(head[3] == node && head[5] == BATCH, "a share of another node or batch");
+    expect(head[3] == node && head[5] == BATCH && head[6] == DULVASPEN_KIND_PACKETS, "a share of another node, batch or kind");
 }
 
 /* Disk 5's share less one byte, as a copy leaves it that stops short. */

@@ -8,6 +8,11 @@
  *   rank: a node's place in the list of the k ids that are read, or of the d that help. The list falls strictly: of the nodes 4, 2 and 1
  *   node 4 has rank 1, node 2 rank 2 and node 1 rank 3
  *
+ * A preview is a file of k*L letters that is only read, never repaired: the calls dulvaspen_preview_*, at the end. Each of n nodes holds one packet,
+ * and any k of them give the file back; k may be n, and there is no d:
+ *
+ *   n  nodes, 3 to 16            k      2 <= k <= n                   l  letters in a sequence (L), 1 to 4,096
+ *
  * THE BUFFERS OF ONE CALL MUST NOT OVERLAP: no letter and no number that a call is lent through one pointer may be lent to it through
  * another, too. It can't be noticed: a share that was written over the packets that it was made of is judged complete, and its letters
  * are wrong. The table below has no number for it, since each refusal is given exactly in the cases named there; and the proof is about
@@ -15,7 +20,7 @@
  *
  * Every call takes any numbers and any bytes. It returns 0, or the number of the refusal (why it is turned down), the lowest that applies:
  *
- *   1  n, k or d outside the ranges above
+ *   1  n, k or d outside the ranges above, which are others for previews
  *   2  l outside its range
  *   3  an id outside 1..n, a wrong number of ids, or a rank or column out of range
  *   4  ids that don't fall strictly, or the lost node among its helpers
@@ -37,15 +42,15 @@
  * A share is a node's packets as stored bytes. Numbers are least byte first:
  *
  *   offset        bytes   what
- *   0             1       1, the kind of the head
- *   1, 2, 3, 4    1 each  n, k, d, node
+ *   0             1       1, the kind of the head; of a preview's share 5
+ *   1, 2, 3, 4    1 each  n, k, d, node; in a preview's share d is 0
  *   5             2       L
  *   7             4       batch
  *   11            65 each for every 64 letters a full block: 2, its kind, and 64 letters; floor(T/64) of them, which may be none
  *   then          65      where 64 doesn't divide T a last block: 3, its kind, the other letters, and zeros up to 64
  *   then          5       4, the kind of the end, and T in 4 bytes
  *
- * BEFORE YOU RECOVER OR REPAIR, judge each share and compare the heads: n, k, d, L and batch must be equal in all of them, and the nodes
+ * BEFORE YOU RECOVER OR REPAIR, judge each share and compare the heads: n, k, d, L, batch and kind must be equal in all of them, and the nodes
  * must all differ. No call can do it, since recover and help are handed letters and not shares; and packets of two batches give letters of
  * neither. The ids to hand on are the nodes of the heads, sorted so that they fall.
  *
@@ -69,9 +74,9 @@
 
 /* The version of this header and of the library that it was installed with. MAJOR rises where a call or a number changes its meaning, MINOR
  * where something is added. */
-#define DULVASPEN_VERSION_MAJOR 2
+#define DULVASPEN_VERSION_MAJOR 3
 #define DULVASPEN_VERSION_MINOR 0
-#define DULVASPEN_VERSION "2.0"
+#define DULVASPEN_VERSION "3.0"
 
 /* Share bytes were found to be neither a share nor the beginning of one, whatever is wrong with them: any of the numbers 8 to 12. (In version 1
  * that was 8 alone.) */
@@ -85,8 +90,17 @@
 #define DULVASPEN_MOST_PACKETS 64590   /* T = 15 * (4,096 + 15 * 14), a repair's buffer, too */
 #define DULVASPEN_MOST_PIECE 4306      /* L' = 4,096 + 15 * 14, one helper's piece */
 #define DULVASPEN_MOST_SHARE 65666     /* bytes: 11 + 65 * 1,010 + 5 */
-#define DULVASPEN_HEAD_NUMBERS 6       /* n, k, d, node, L, batch */
-#define DULVASPEN_ARRIVING_WORDS 8     /* the state of a share that arrives */
+#define DULVASPEN_HEAD_NUMBERS 7       /* n, k, d, node, L, batch, kind (in version 2 six, without the kind) */
+#define DULVASPEN_ARRIVING_WORDS 9     /* the state of a share that arrives (in version 2 eight) */
+
+/* The same of previews: the file of k = 16; packet and share of node 16 with k = 16; with L = 4,096. */
+#define DULVASPEN_MOST_PREVIEW_FILE 65536  /* k*L = 16 * 4,096, the collector's buffer, too */
+#define DULVASPEN_MOST_PREVIEW_PACKET 4336 /* T = 4,096 + 16 * 15 */
+#define DULVASPEN_MOST_PREVIEW_SHARE 4436  /* bytes: 11 + 65 * 68 + 5 */
+
+/* The kinds of head: head[6], and the first byte of a share. */
+#define DULVASPEN_KIND_PACKETS 1       /* a node's packets, of the code that is repaired */
+#define DULVASPEN_KIND_PREVIEW 5       /* a node's packet of a preview */
 
 #ifdef __cplusplus
 extern "C" {
@@ -155,13 +169,15 @@ uint64_t dulvaspen_repair(uint64_t n, uint64_t k, uint64_t d, uint64_t l, uint64
 uint64_t dulvaspen_write_share(uint64_t n, uint64_t k, uint64_t d, uint64_t l, uint64_t node, uint32_t batch, const uint8_t *packets,
                                uint64_t packets_len, uint8_t *share, uint64_t share_len);
 
-/* Reads any bytes. Of a share: head[0..5] = n, k, d, node, L, batch, and packets holds its letters. packets_len must be T and head_len 6
- * (else 6). Refusals: 7 to 12, then 6. To learn T first, judge the share. */
+/* Reads any bytes. Of a share, of either kind: head[0..6] = n, k, d, node, L, batch, kind, and packets holds its letters. packets_len must be T
+ * and head_len 7 (else 6). Refusals: 7 to 12, then 6. To learn T first, judge the share: it is what dulvaspen_packet_letters gives for the head's
+ * numbers, and for kind 5 dulvaspen_preview_packet_letters. */
 uint64_t dulvaspen_read_share(const uint8_t *share, uint64_t share_len, uint8_t *packets, uint64_t packets_len, uint64_t *head,
                               uint64_t head_len);
 
-/* Judges any bytes without copying letters: 0 and the head for a share, 7 for the beginning of one, and for neither what is wrong, 8 to 12.
- * head_len must be 6 (else 6). A share that was cut short, even by one byte, is never 0. Refusals: 7 to 12, then 6. */
+/* Judges any bytes without copying letters: 0 and the head for a share of either kind, 7 for the beginning of one, and for neither what is wrong,
+ * 8 to 12. head_len must be 7 (else 6). A share that was cut short, even by one byte, is never 0. Refusals: 7 to 12, then 6.
+ * Example: a preview's share whose d isn't 0 is refused by 9, at index 3. */
 uint64_t dulvaspen_judge_share(const uint8_t *share, uint64_t share_len, uint64_t *head, uint64_t head_len);
 
 /* *bytes = how many bytes from the front can stand: all of them for a share or the beginning of one, and else the index, from 0, of the first that
@@ -171,13 +187,14 @@ uint64_t dulvaspen_good_bytes(const uint8_t *share, uint64_t share_len, uint64_t
 
 /* ---- a share that arrives: judged while its bytes come, in bursts of any size, keeping none of them ----
  *
- *   uint64_t state[DULVASPEN_ARRIVING_WORDS], head[6], bytes;
- *   dulvaspen_arriving_start(state, DULVASPEN_ARRIVING_WORDS);
+ *   enum { WORDS = DULVASPEN_ARRIVING_WORDS, HEAD = DULVASPEN_HEAD_NUMBERS };
+ *   uint64_t state[WORDS], head[HEAD], bytes;
+ *   dulvaspen_arriving_start(state, WORDS);
  *   while ((got = read(in, burst, sizeof burst)) > 0) {
- *       dulvaspen_arriving_take(state, DULVASPEN_ARRIVING_WORDS, burst, got);
- *       if (DULVASPEN_MALFORMED(dulvaspen_arriving_judge(state, DULVASPEN_ARRIVING_WORDS, head, 6))) break;   // hopeless: stop the copy now
+ *       dulvaspen_arriving_take(state, WORDS, burst, got);
+ *       if (DULVASPEN_MALFORMED(dulvaspen_arriving_judge(state, WORDS, head, HEAD))) break;   // hopeless: stop the copy now
  *   }
- *   if (dulvaspen_arriving_judge(state, DULVASPEN_ARRIVING_WORDS, head, 6) == 0) ...                          // the whole share, and its head
+ *   if (dulvaspen_arriving_judge(state, WORDS, head, HEAD) == 0) ...                          // the whole share, and its head
  *
  * The state is an array of DULVASPEN_ARRIVING_WORDS numbers that the caller owns. It is a function of all bytes so far: how they were cut
  * makes no difference, not even in the state's numbers. So it may be kept, copied, stored and gone on with elsewhere (an array of 64-bit
@@ -195,17 +212,59 @@ uint64_t dulvaspen_arriving_start(uint64_t *state, uint64_t state_len);
 uint64_t dulvaspen_arriving_take(uint64_t *state, uint64_t state_len, const uint8_t *bytes, uint64_t bytes_len);
 
 /* What dulvaspen_judge_share returns for all bytes so far, and the head: 0 for a whole share, 7 for the beginning of one, 8 to 12 for neither.
- * head_len must be 6 (else 6). Refusals: 5, then 7 to 12, then 6. */
+ * head_len must be 7 (else 6). Refusals: 5, then 7 to 12, then 6. */
 uint64_t dulvaspen_arriving_judge(const uint64_t *state, uint64_t state_len, uint64_t *head, uint64_t head_len);
 
 /* *bytes = what dulvaspen_good_bytes gives for all bytes so far: how many of them can stand, and so the index of the first that can't, if there is
  * one. 0 for numbers to which no bytes lead. Refusal: 5. */
 uint64_t dulvaspen_arriving_good_bytes(const uint64_t *state, uint64_t state_len, uint64_t *bytes);
 
-/* Whose share is coming: as soon as the head is in and while nothing is wrong, 0, head[0..5], and *bytes = the bytes that the whole share
- * will have, complete or not. 7 while the head isn't in (its first 11 bytes), 8 to 12 as above. head_len must be 6 (else 6).
+/* Whose share is coming: as soon as the head is in and while nothing is wrong, 0, head[0..6], and *bytes = the bytes that the whole share
+ * will have, complete or not. 7 while the head isn't in (its first 11 bytes), 8 to 12 as above. head_len must be 7 (else 6).
  * Refusals: 5, then 7 to 12, then 6. */
 uint64_t dulvaspen_arriving_head(const uint64_t *state, uint64_t state_len, uint64_t *head, uint64_t head_len, uint64_t *bytes);
+
+/* ---- previews: the plain k-of-n code, read and never repaired ----
+ *
+ * The file is k sequences of L letters, one after another. Node i holds one packet of L + t(i,k) letters: the sum of the sequences, sequence j moved
+ * right by t(i,j) = i*(j-1). Here n, k and l have the ranges that are said for previews above. Their shares are judged, read and taken as they come by
+ * the calls above. examples/preview.c is a preview's whole way. */
+
+/* *letters = k*L, the letters of a preview and of the collector's buffer. Refusals: 1, 2.
+ * Example: n 3, k 2, l 1 gives 2. */
+uint64_t dulvaspen_preview_file_letters(uint64_t n, uint64_t k, uint64_t l, uint64_t *letters);
+
+/* *letters = T = L + t(node,k), the letters of a node's packet. Refusals: 1, 2, 3.
+ * Example: node 3 of n 3, k 2, l 1 holds 4. */
+uint64_t dulvaspen_preview_packet_letters(uint64_t n, uint64_t k, uint64_t l, uint64_t node, uint64_t *letters);
+
+/* *bytes = the bytes of a node's share: 11 + 65 for each begun 64 letters + 5. Refusals: 1, 2, 3. */
+uint64_t dulvaspen_preview_share_bytes(uint64_t n, uint64_t k, uint64_t l, uint64_t node, uint64_t *bytes);
+
+/* Fills packet with the node's packet. file_len must be k*L (else 5), packet_len T (else 6). Refusals: 1, 2, 3, 5, 6.
+ * Example: n 3, k 2, l 1, the file 01 10 (hexadecimal): node 1 holds 01 10, node 2 01 00 10 and node 3 01 00 00 10. */
+uint64_t dulvaspen_preview_encode(uint64_t n, uint64_t k, uint64_t l, uint64_t node, const uint8_t *file, uint64_t file_len, uint8_t *packet,
+                                  uint64_t packet_len);
+
+/* What a node sends as rank (its place among the k ids, which fall) is a part of its packet, L letters from packet[*start] on, where *start is
+ * t(node,rank). packet_len must be T (else 5); packet is not read. A rank outside 1..k is 3. Refusals: 1, 2, 3, 5. */
+uint64_t dulvaspen_preview_piece(uint64_t n, uint64_t k, uint64_t l, uint64_t node, uint64_t rank, const uint8_t *packet, uint64_t packet_len,
+                                 uint64_t *start);
+
+/* Where the collector puts that piece: from buffer[*start] on, *start = (rank-1)*L. A rank outside 1..k is 3. Refusals: 1, 2, 3.
+ * Example: for v = 1..k copy L letters from packet + piece's start to buffer + entry's start, where packet is that of the node of rank v, which is
+ * ids[v-1]: the v-th of the k ids, which fall strictly. */
+uint64_t dulvaspen_preview_entry(uint64_t n, uint64_t k, uint64_t l, uint64_t rank, uint64_t *start);
+
+/* Turns the k pieces in buffer into the preview, in place: the one file that has those pieces, whatever their letters. ids are the k nodes, strictly
+ * falling. buffer_len must be k*L (else 5). *count = the letter additions of solving. Refusals: 1, 2, 3, 4, 5. */
+uint64_t dulvaspen_preview_recover(uint64_t n, uint64_t k, uint64_t l, const uint64_t *ids, uint64_t ids_len, uint8_t *buffer, uint64_t buffer_len,
+                                   uint64_t *count);
+
+/* Fills share with the share of this node and batch, of kind 5. packet_len must be T (else 5), share_len dulvaspen_preview_share_bytes' (else 6).
+ * Refusals: 1, 2, 3, 5, 6. */
+uint64_t dulvaspen_preview_write_share(uint64_t n, uint64_t k, uint64_t l, uint64_t node, uint32_t batch, const uint8_t *packet,
+                                       uint64_t packet_len, uint8_t *share, uint64_t share_len);
 
 #ifdef __cplusplus
 }

@@ -5,43 +5,48 @@ the store's code. From the root of the repository this makes both files again, c
     tools/arriving_model.py
 
 A state is worked out from all bytes so far and never from a state before: their judgment (tools/shares.py) tells the first byte that can't
-stand and how it is refused, and the head's numbers are read off the bytes before it. Whether any bytes lead to eight numbers is found
+stand and how it is refused, and the head's numbers are read off the bytes before it. Whether any bytes lead to nine numbers is found
 out by writing such bytes down and looking at the state that they have. tools/script.py has the memories.
 """
 import sys
 
 sys.dont_write_bytecode = True
 from script import NONE, Chooser, Script, listed
-from shares import AFTER, ANY, KIND, digit, in_range, judge, number, runs, share, share_size, short, swept, told, total
+from shares import (AFTER, ANY, KIND, KINDS, Head, chosen_bytes, chosen_head, chosen_preview, chosen_preview_bytes, digit, head_in, judge, number, preview_head,
+                    runs, share, short, swept, told)
 
 SCRIPT = Script(600000)
 ONES = 2**64 - 1
-AT, WRONG, N, K, D, NODE, L, BATCH = range(8)
+WORDS = 9
+AT, WRONG, N, K, D, NODE, L, BATCH, HEAD_KIND = range(WORDS)
 
 
 # the state of bytes, and the bytes of a state
 
 
 def state_of(data):
-    """The eight words after these bytes: how many can stand, how the next is refused (0: it isn't), and the head's numbers, where a byte that isn't
-    in, or can't stand, counts as 0."""
+    """The nine words after these bytes: how many can stand, how the next is refused (0: it isn't), and the head's numbers with its kind last, where a
+    byte that isn't in, or can't stand, counts as 0."""
     found, place = judge(data)
     at, wrong = (place, found) if found >= KIND else (len(data), 0)
-    head = bytes(data[:min(at, 11)]).ljust(11, b"\0")
-    return [at, wrong, *head[1:5], int.from_bytes(head[5:7], "little"), int.from_bytes(head[7:], "little")]
+    return [at, wrong, *known(data[:at])]
+
+
+def known(data):
+    """The head as far as its bytes are in."""
+    return head_in(bytes(data[:11]).ljust(11, b"\0"))
 
 
 def fitting(words):
     """Bytes, as many as the state says, whose head has its numbers: nothing where such a head isn't written, or no share is so long."""
-    at, _, n, k, d, node, length, batch = words
-    if max(n, k, d, node) > 255 or length > 65535 or batch > 2**32 - 1:
+    at, head = words[AT], Head(*words[N:])
+    if max(head.n, head.k, head.d, head.node, head.kind) > 255 or head.l > 65535 or head.batch > 2**32 - 1:
         return None
     if at <= 11:
-        return bytes([1, n, k, d, node] + number(length, 2) + number(batch, 4))[:at]
-    if not in_range(n, k, d) or not 1 <= node <= n or not 1 <= length <= 4096:
+        return bytes(head.record()[:at])
+    if head.kind not in KINDS or not head.in_range() or not 1 <= head.node <= head.n or not 1 <= head.l <= 4096:
         return None
-    letters = total(d, node, length)
-    return bytes(share(*words[N:], [0] * letters)[:at]) if at <= share_size(letters) else None
+    return bytes(share(head, [0] * head.total())[:at]) if at <= head.size() else None
 
 
 def leading(words):
@@ -58,7 +63,7 @@ def leading(words):
 
 
 class State:
-    """Eight words, and some bytes that lead to them, if any do."""
+    """Nine words, and some bytes that lead to them, if any do."""
 
     def __init__(self, words, lead):
         self.words, self.lead = words, lead
@@ -82,7 +87,8 @@ class State:
             return told(self.judged())
         if len(self.lead) < 11:
             return "7"
-        return told((0, self.words[N:])) + f" bytes {share_size(total(*self.words[D:L + 1]))}"
+        head = Head(*self.words[N:])
+        return told((0, head)) + f" bytes {head.size()}"
 
     def answers(self):
         good = 0 if self.lead is None else self.words[AT]
@@ -177,9 +183,9 @@ ZEROS = 500000
 
 def laid(head, seed):
     """A share at the start of A; each of its blocks has the letters of the generator. The answer is how many bytes it has."""
-    letters = total(*head[2:5])
-    full, left, whole = letters // 64, letters % 64, share_size(letters)
-    SCRIPT.put((0, 11), NONE, [1, *head[:4]] + number(head[4], 2) + number(head[5], 4))
+    letters = head.total()
+    full, left, whole = letters // 64, letters % 64, head.size()
+    SCRIPT.put((0, 11), NONE, head.record())
     if full:
         SCRIPT.fill((11, 65), NONE, seed)
         SCRIPT.put((11, 1), NONE, [2])
@@ -197,14 +203,14 @@ def laid(head, seed):
     SCRIPT.put((whole - 5, 6), NONE, [4] + number(letters, 4) + [0])
     data = list(SCRIPT.in_a((0, whole)))
     bodies = [data[12 + 65 * block:76 + 65 * block] for block in range((whole - 16) // 65)]
-    assert data == share(*head, sum(bodies, [])[:letters])
+    assert data == share(head, sum(bodies, [])[:letters])
     return whole
 
 
 def kinds(head):
     """An index of each kind of byte by its name, in a share with this head."""
-    letters = total(*head[2:5])
-    full, left, whole = letters // 64, letters % 64, share_size(letters)
+    letters = head.total()
+    full, left, whole = letters // 64, letters % 64, head.size()
     found = {"kind": [0], "n": [1], "k": [2], "d": [3], "node": [4], "L": [5, 6], "batch": [7, 8, 9, 10]}
     if full:
         found.update({"full block": [11], "letter": [12, 75]})
@@ -219,15 +225,23 @@ def kinds(head):
 
 # T leaves 0, 1 and 63 over 64 with as few blocks as there can be, and with more; then few letters, and a group in which no two numbers are the same
 SHARES = [
-    (3, 2, 2, 1, 32, 1), (6, 2, 5, 1, 13, 16909060), (4, 2, 3, 1, 21, 4294967295),
-    (4, 2, 3, 1, 64, 256), (4, 2, 3, 1, 43, 65536), (4, 3, 3, 2, 83, 16777216),
-    (3, 2, 2, 1, 1, 7), (7, 3, 4, 5, 6, 0),
+    Head(3, 2, 2, 1, 32, 1), Head(6, 2, 5, 1, 13, 16909060), Head(4, 2, 3, 1, 21, 4294967295),
+    Head(4, 2, 3, 1, 64, 256), Head(4, 2, 3, 1, 43, 65536), Head(4, 3, 3, 2, 83, 16777216),
+    Head(3, 2, 2, 1, 1, 7), Head(7, 3, 4, 5, 6, 0),
 ]
-LONG = (16, 15, 15, 16, 4096, 305419896)
+LONG = Head(16, 15, 15, 16, 4096, 305419896)
+
+# the same of previews, with k below n and k = n
+PREVIEW_SHARES = [
+    preview_head(4, 3, 2, 60, 1), preview_head(6, 6, 5, 40, 16909060), preview_head(5, 2, 3, 60, 4294967295),
+    preview_head(4, 4, 4, 180, 256), preview_head(4, 4, 4, 181, 65536), preview_head(4, 3, 1, 189, 16777216),
+    preview_head(3, 2, 1, 1, 7), preview_head(7, 3, 5, 6, 0),
+]
+LONG_PREVIEW = preview_head(16, 16, 16, 4096, 305419896)
 
 
-def whole_shares():
-    for seed, head in enumerate(SHARES, 1):
+def whole_shares(shares):
+    for seed, head in enumerate(shares, 1):
         SCRIPT.heading("A share in one burst, byte by byte with empty bursts between, in longer bursts, with a judgment after each byte, cut in two everywhere")
         whole = laid(head, 10 * seed)
         start((0, whole))
@@ -255,11 +269,11 @@ def others(at, own):
     return sorted({byte % 256 for byte in some} - {own})
 
 
-def malformed():
+def malformed(shares):
     """The first three are cut everywhere, which tells the state after one burst too; of the others each byte is a burst."""
     for place in (0, 1, 2, 5, 6):
         SCRIPT.heading("A share with another byte at each kind of place")
-        whole = laid(SHARES[place], 10 * place)
+        whole = laid(shares[place], 10 * place)
 
         def each():
             if place < 3:
@@ -268,7 +282,7 @@ def malformed():
                 start((0, whole))
                 bursts((0, whole), 1)
 
-        for at in [at for some in kinds(SHARES[place]).values() for at in some if at < whole]:
+        for at in [at for some in kinds(shares[place]).values() for at in some if at < whole]:
             for byte in others(at, SCRIPT.a[at]):
                 with_byte(at, byte, each)
 
@@ -277,8 +291,8 @@ def malformed():
 SIZES = [2, 3, 5, 7, 13, 64, 65, 100]
 
 
-def changed():
-    for head in SHARES[:3]:
+def changed(shares):
+    for head in shares[:3]:
         SCRIPT.heading("A small share, each of its bytes as each other byte, in bursts of one byte and of several")
         whole = laid(head, 7)
         for at in range(whole):
@@ -289,8 +303,8 @@ def changed():
         change((0, whole + 9), whole, 4)
 
 
-def wrong_numbers():
-    for head in SHARES[:2]:
+def wrong_numbers(shares):
+    for head in shares[:2]:
         SCRIPT.heading("Every number as that of a wrong byte, after each byte of a share, and after its end")
         whole = laid(head, 8)
         start(NONE)
@@ -301,8 +315,8 @@ def wrong_numbers():
         word(AT)
 
 
-def sweeps():
-    for head in (SHARES[0], SHARES[1], SHARES[4], SHARES[6]):
+def sweeps(shares):
+    for head in (shares[0], shares[1], shares[4], shares[6]):
         SCRIPT.heading("Every byte as the next, at each kind of place")
         laid(head, 4)
         start(NONE)
@@ -327,14 +341,14 @@ def each_word(rest):
             aside(rest, i, other)
 
 
-def forged():
-    head = SHARES[1]
+def forged(head):
+    """T leaves 1 over 64, and there is a full block."""
     SCRIPT.heading("Each word of a state changed, after so many bytes of a share; then the rest of the share")
     whole = laid(head, 5)
     for at in (0, 1, 2, 3, 4, 5, 6, 7, 8, 9, 10, 11, 12, 40, 76, 77, 78, 100, whole - 5, whole - 4, whole - 1, whole):
         start((0, at))
         each_word((at, whole - at))
-        for i in range(8):
+        for i in range(WORDS):
             word(i)
     SCRIPT.heading("The same after a wrong byte")
     for at, byte in ((0, 2), (1, 17), (2, 1), (3, 6), (4, 7), (6, 17), (11, 3), (76, 2), (100, 9), (whole - 5, 3), (whole - 4, 0), (whole - 1, 1), (whole, 4)):
@@ -348,9 +362,9 @@ def forged():
         with_byte(at, byte, each)
 
 
-def wide():
+def wide(head):
     SCRIPT.heading("Numbers that are too wide for their bytes, and would be right without what is too much; where no byte of them is in, too")
-    whole = laid(SHARES[1], 5)
+    whole = laid(head, 5)
     for at in (0, 1, 5, 11, whole):
         start((0, at))
         for i, value in enumerate(KEPT[0].words):
@@ -358,9 +372,9 @@ def wide():
                 aside((at, whole - at), i, value + more)
 
 
-def at_ends():
+def at_ends(head):
     SCRIPT.heading("The number of bytes forged: at the end of the share, past it, and as large as it can be")
-    whole = laid(SHARES[2], 6)
+    whole = laid(head, 6)
     start((0, 30))
     for at in (0, 11, 29, whole - 1, whole, whole + 1, whole + 65, 65666, 65667, 2**32 + 30, 2**63, ONES - 64, ONES - 1, ONES):
         aside((30, whole - 30), AT, at)
@@ -368,7 +382,7 @@ def at_ends():
     SCRIPT.heading("All words alike, one after the other")
     for value in (0, 1, ONES, 2, KIND, AFTER):
         start(NONE)
-        for i in range(8):
+        for i in range(WORDS):
             forge(i, value)
         burst((0, whole))
         sweep()
@@ -376,14 +390,16 @@ def at_ends():
 
 # the two sides of each limit: the ranges, and what a number's bytes can hold
 LIMITS = {N: (2, 3, 16, 17, 255, 256), K: (1, 2, 3, 4, 255, 256), D: (1, 2, 3, 4, 255, 256), NODE: (0, 1, 4, 5, 255, 256),
-          L: (0, 1, 255, 256, 4095, 4096, 4097, 65535, 65536), BATCH: (2**32 - 1, 2**32), WRONG: (1, 7, 8, 9, 10, 11, 12, 13)}
+          L: (0, 1, 255, 256, 4095, 4096, 4097, 65535, 65536), BATCH: (2**32 - 1, 2**32), WRONG: (1, 7, 8, 9, 10, 11, 12, 13),
+          HEAD_KIND: (0, 1, 2, 4, 5, 6, 255, 256)}
+PREVIEW_LIMITS = {**LIMITS, K: (1, 2, 5, 6, 255, 256), D: (1, 2, 5, 255, 256), NODE: (0, 1, 5, 6, 255, 256)}
 
 
-def limits():
+def limits(head, each):
     SCRIPT.heading("Each number at its limits: in the middle of a block, with the head just in, and where it is the last that is in")
-    laid(SHARES[2], 6)
-    for i, values in LIMITS.items():
-        last = {N: 2, K: 3, D: 4, NODE: 5, L: 7, BATCH: 11, WRONG: 6}[i]
+    laid(head, 6)
+    for i, values in each.items():
+        last = {N: 2, K: 3, D: 4, NODE: 5, L: 7, BATCH: 11, WRONG: 6, HEAD_KIND: 1}[i]
         for at in dict.fromkeys((30, 11, last)):
             start((0, at))
             for value in values:
@@ -391,50 +407,39 @@ def limits():
                     aside((at, 3), i, value)
 
 
-def chosen_head(chooser):
-    n = chooser.within(3, 16)
-    d = chooser.within(2, n - 1)
-    length = chooser.one_of([1, 2, 5, 9, 16, 21, 33, 64, 255, 256, 4096])
-    return n, chooser.within(2, d), d, chooser.within(1, n), length, chooser.within(0, 32767) * 131071
-
-
-def chosen_states():
+def chosen_states(chosen, seed):
     SCRIPT.heading("States of the generator, some of them of a share: each word forged, then bytes after it")
-    chooser = Chooser(31)
+    chooser = Chooser(seed)
     for _ in range(30):
-        head = list(chosen_head(chooser))
-        size = share_size(total(*head[2:5]))
+        head = chosen(chooser, [1, 2, 5, 9, 16, 21, 33, 64, 255, 256, 4096])
+        size = head.size()
         at = chooser.one_of([chooser.within(0, 11), chooser.within(11, size), 11 + 65 * chooser.within(0, (size - 16) // 65), size - chooser.within(0, 5), size + 1])
         if chooser.chance(3):
             place = chooser.within(0, 4)
-            head[place] = max(0, head[place] + chooser.one_of([-1, 1]))
+            head = head._replace(**{head._fields[place]: max(0, head[place] + chooser.one_of([-1, 1]))})
         if at < 11 and not chooser.chance(4):
-            known = bytes([1, *head[:4]] + number(head[4], 2) + number(head[5], 4))[:at].ljust(11, b"\0")
-            head = [*known[1:5], int.from_bytes(known[5:7], "little"), int.from_bytes(known[7:], "little")]
+            head = known(head.record()[:at])
         words = [at, chooser.one_of([0, 0, 0, 0, 1, KIND, KIND, 9, 10, 11, AFTER]), *head]
         SCRIPT.put((0, 5), NONE, [chooser.one_of([0, 1, 2, 3, 4]), chooser.within(0, 4), 0, 0, chooser.within(0, 255)])
         start(NONE)
-        changed = [i for i in range(8) if words[i]]
+        changed = [i for i in (HEAD_KIND, *range(HEAD_KIND)) if words[i]]
         for i in changed[:-1]:
             forge(i, words[i])
         for i in changed[-1:]:
             aside((0, chooser.within(1, 5)), i, words[i])
 
 
-def heads():
-    SCRIPT.heading("Heads of the generator, most of them with a number outside its range")
-    chooser = Chooser(12)
+def heads(name, chosen, seed):
+    SCRIPT.heading(f"{name} of the generator, most of them with a number outside its range")
+    chooser = Chooser(seed)
     for _ in range(100):
-        n = chooser.within(2, 17)
-        d = chooser.within(1, n)
-        data = [1, n, chooser.within(1, d), d, chooser.within(0, n + 1), chooser.one_of([0, 1, 255]), chooser.one_of([0, 1, 15, 16, 17])]
-        SCRIPT.put((0, 15), NONE, data + [chooser.within(0, 255) for _ in range(4)] + [chooser.one_of([1, 2, 2, 3, 4])] + [7, 0, 9])
+        SCRIPT.put((0, 15), NONE, chosen(chooser))
         bursts((0, chooser.within(1, 15)), chooser.within(0, 5))
 
 
-def long():
-    SCRIPT.heading("The longest share")
-    whole = laid(LONG, 8)
+def long(name, head, middle):
+    SCRIPT.heading(name)
+    whole = laid(head, 8)
     start((0, 11))
     burst((11, whole - 11))
     for size in (7, 64, 65, 4096, 65535):
@@ -443,7 +448,7 @@ def long():
     bursts((0, whole - 1), 4096)
     burst((whole - 1, 2))
     SCRIPT.heading("The same with a wrong byte")
-    for at in (11 + 65 * 500, whole - 70, whole - 30, whole - 5, whole - 2):
+    for at in (11 + 65 * middle, whole - 70, whole - 30, whole - 5, whole - 2):
 
         def each():
             start((0, whole))
@@ -453,18 +458,31 @@ def long():
 
 
 def main():
-    whole_shares()
-    malformed()
-    changed()
-    wrong_numbers()
-    sweeps()
-    forged()
-    wide()
-    at_ends()
-    limits()
-    chosen_states()
-    heads()
-    long()
+    whole_shares(SHARES)
+    malformed(SHARES)
+    changed(SHARES)
+    wrong_numbers(SHARES)
+    sweeps(SHARES)
+    forged(SHARES[1])
+    wide(SHARES[1])
+    at_ends(SHARES[2])
+    limits(SHARES[2], LIMITS)
+    chosen_states(chosen_head, 31)
+    heads("Heads", chosen_bytes, 12)
+    long("The longest share", LONG, 500)
+    SCRIPT.heading("Shares of previews")
+    whole_shares(PREVIEW_SHARES)
+    malformed(PREVIEW_SHARES)
+    changed(PREVIEW_SHARES)
+    wrong_numbers(PREVIEW_SHARES[:1])
+    sweeps(PREVIEW_SHARES)
+    forged(PREVIEW_SHARES[1])
+    wide(PREVIEW_SHARES[1])
+    at_ends(PREVIEW_SHARES[2])
+    limits(PREVIEW_SHARES[2], PREVIEW_LIMITS)
+    chosen_states(chosen_preview, 32)
+    heads("Heads of previews", chosen_preview_bytes, 14)
+    long("The longest share of a preview", LONG_PREVIEW, 30)
     SCRIPT.write("arriving_runs")
 
 

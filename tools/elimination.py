@@ -6,19 +6,25 @@ unknowns that the letter is a sum of.
 
 
 def shift(node, column):
+    """The shifts of the repairing code."""
     return (node - 1) * (column - 1)
 
 
-def equations(s, n, ids):
+def preview_shift(node, column):
+    """The shifts of previews."""
+    return node * (column - 1)
+
+
+def equations(s, n, ids, t):
     """For each rank and place, in the order of the pieces, the unknowns that the letter is a sum of: letter p of the
     piece of rank b is the sum over a of letter p + t(b,b) - t(b,a) of sequence a, where a letter outside 1..n counts
-    as zero."""
+    as zero. The code says which shifts `t` are."""
     rows = []
     for b in range(1, s + 1):
         for p in range(1, n + 1):
             row = []
             for a in range(1, s + 1):
-                q = p + shift(ids[b - 1], b) - shift(ids[b - 1], a)
+                q = p + t(ids[b - 1], b) - t(ids[b - 1], a)
                 if 1 <= q <= n:
                     row.append((a - 1) * n + (q - 1))
             rows.append(row)
@@ -85,10 +91,10 @@ def solved(rows, letters, most=300, both=60):
     return answer
 
 
-def additions(s, n, ids):
+def additions(s, n, ids, t):
     """Document 01's sum over ordered pairs of ranks (docs/SCHEME.md, 8)."""
     ranks = range(1, s + 1)
-    return sum(max(0, n - abs(shift(ids[b - 1], a) - shift(ids[b - 1], b))) for b in ranks for a in ranks if a != b)
+    return sum(max(0, n - abs(t(ids[b - 1], a) - t(ids[b - 1], b))) for b in ranks for a in ranks if a != b)
 
 
 def following(x):

@@ -21,7 +21,7 @@ ${called}judge [FILE...]
 Says of each file what it is, one line each with the file's name before it; without files, of the bytes on standard input,
 with no name:
 
-  complete 3 2 2 node 1 length 1 batch 7 letters 2     a share: n, k, d, the node, L, the batch and its letters
+  complete 3 2 2 node 1 length 1 batch 7 letters 2     a share: n, k, d (0 of a preview), node, L, batch, letters
   unfinished                                           the beginning of a share, but not all of it (no bytes, too)
   malformed 9 at 4                                     neither: what is wrong, and the index, from 0, of the first byte that
                                                        can't stand; 8 the kind of a record, 9 a number of the head, 10 a
@@ -42,7 +42,7 @@ Judges a share while it comes in on standard input, however slowly and however l
 judge writes for such bytes, as soon as it is known: at the first byte that can't stand it stops reading; a share is complete only
 when the input ends, since a byte more would make it malformed.
 
-  complete 3 2 2 node 1 length 1 batch 7 letters 2     a share: n, k, d, the node, L, the batch and its letters
+  complete 3 2 2 node 1 length 1 batch 7 letters 2     a share: n, k, d (0 of a preview), node, L, batch, letters
   unfinished                                           the input ended within a share (no bytes, too)
   malformed 9 at 4                                     neither: what is wrong, by the numbers that judge's help has, and
                                                        where, from 0

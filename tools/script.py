@@ -62,6 +62,7 @@ class Script:
         self.line(5, "show", NONE, b, "", hexes(":", self.in_b(b)))
 
     def write(self, crate):
+        assert sum(len(line) + 1 for line in self.stdin) <= TEXT
         for name, lines in (("stdin", self.stdin), ("stdout", self.stdout)):
             with open(f"crates/{crate}/{name}", "w") as out:
                 out.write("\n".join(lines) + "\n")
@@ -69,6 +70,9 @@ class Script:
 
 
 NONE = (0, 0)
+
+# the room that a program has for a script's text (`room` in crates/lines)
+TEXT = 600000
 
 
 def part(memory, place):

@@ -10,58 +10,59 @@ import sys
 
 sys.dont_write_bytecode = True
 from script import NONE, Chooser, Script
-from shares import in_range, judge, share, share_size, swept, told, total
+from shares import (PREVIEWS, REPAIRING, Head, chosen_bytes, chosen_head, chosen_preview, chosen_preview_bytes, head_in, judge, preview_head, share,
+                    swept, told)
 
 SCRIPT = Script(600000)
 
 
 def letters_of(data):
     """The letters of a share: every body of a block, without the filler."""
-    n, k, d, node = data[1:5]
-    letters = total(d, node, data[5] + 256 * data[6])
     bodies = []
     rest = data[11:-5]
     while rest:
         bodies += rest[1:65]
         rest = rest[65:]
-    return bodies[:letters]
+    return bodies[:head_in(data).total()]
 
 
-def refusal(n, k, d, node, length):
-    if not in_range(n, k, d):
+def refusal(head):
+    if not head.in_range():
         return 1
-    if not 1 <= length <= 4096:
+    if not 1 <= head.l <= 4096:
         return 2
-    if not 1 <= node <= n:
+    if not 1 <= head.node <= head.n:
         return 3
     return 0
 
 
-# the calls: each makes its line, and leaves in B what document 01 says (docs/SCHEME.md, 9 and 11). A head is n, k, d, node, L and the batch number
+# the calls: each makes its line, and leaves in B what the documents say (docs/SCHEME.md, 9 and 11). There are two of those that are handed a head, one for
+# each kind of it
+WRITE = {REPAIRING: (21, "write"), PREVIEWS: (27, "write preview")}
+BYTES = {REPAIRING: (22, "bytes"), PREVIEWS: (28, "preview bytes")}
 
 
 def named(head):
-    n, k, d, node, length, batch = head
-    return f" [{n},{k},{d}] L {length} node {node}"
+    return f" [{head.n},{head.k},{head.d}] L {head.l} node {head.node}"
 
 
 def size(head):
-    number = refusal(*head[:5])
-    value = 0 if number else share_size(total(*head[2:5]))
-    SCRIPT.line(22, "bytes", NONE, NONE, named(head), f": {number} value {value}")
+    number = refusal(head)
+    value = 0 if number else head.size()
+    SCRIPT.line(*BYTES[head.kind], NONE, NONE, named(head), f": {number} value {value}")
 
 
 def write(a, b, head):
     letters, out = list(SCRIPT.in_a(a)), SCRIPT.in_b(b)
-    number, value = refusal(*head[:5]), 0
-    if not number and len(letters) != total(*head[2:5]):
+    number, value = refusal(head), 0
+    if not number and len(letters) != head.total():
         number = 5
-    if not number and len(out) != share_size(len(letters)):
+    if not number and len(out) != head.size():
         number = 6
     if not number:
         value = len(out)
-        SCRIPT.into_b(b, share(*head, letters))
-    SCRIPT.line(21, "write", a, b, f"{named(head)} batch {head[5]}", f": {number} value {value}")
+        SCRIPT.into_b(b, share(head, letters))
+    SCRIPT.line(*WRITE[head.kind], a, b, f"{named(head)} batch {head.batch}", f": {number} value {value}")
 
 
 def judged(a):
@@ -71,7 +72,7 @@ def judged(a):
 def read(a, b):
     data, out = SCRIPT.in_a(a), SCRIPT.in_b(b)
     judgment = judge(data)
-    if not judgment[0] and len(out) != total(*judgment[1][2:5]):
+    if not judgment[0] and len(out) != judgment[1].total():
         judgment = 6, None
     if not judgment[0]:
         SCRIPT.into_b(b, letters_of(list(data)))
@@ -95,17 +96,17 @@ def stand(a):
 
 def made(head, seed):
     """A share at the start of both memories, its letters those of the generator. The answer is how many it has, and how many bytes."""
-    count = total(*head[2:5])
+    count, whole = head.total(), head.size()
     SCRIPT.fill((0, count), NONE, seed)
-    write((0, count), (0, share_size(count)), head)
-    SCRIPT.keep((0, share_size(count)), (0, share_size(count)))
-    return count, share_size(count)
+    write((0, count), (0, whole), head)
+    SCRIPT.keep((0, whole), (0, whole))
+    return count, whole
 
 
-def desk():
-    SCRIPT.heading("The desk's share, its bytes, and it read back")
-    head = (3, 2, 2, 1, 1, 7)
-    SCRIPT.put((0, 2), NONE, [0x11, 0x50])
+def desk(name, head, letters):
+    """A share of two letters, and so of 81 bytes."""
+    SCRIPT.heading(f"{name}, its bytes, and it read back")
+    SCRIPT.put((0, 2), NONE, letters)
     size(head)
     write((0, 2), (0, 81), head)
     SCRIPT.show((0, 81))
@@ -131,18 +132,25 @@ def desk():
 
 
 LIMITS = [
-    (3, 2, 2, 1, 1, 0), (3, 2, 2, 3, 1, 4294967295), (16, 2, 2, 1, 5, 16909060), (16, 2, 2, 16, 5, 256), (16, 2, 15, 16, 5, 65536),
-    (16, 15, 15, 16, 5, 16777216), (16, 15, 15, 1, 5, 255), (3, 2, 2, 1, 4096, 1), (16, 15, 15, 16, 4096, 1), (16, 15, 15, 1, 4096, 1),
+    Head(3, 2, 2, 1, 1, 0), Head(3, 2, 2, 3, 1, 4294967295), Head(16, 2, 2, 1, 5, 16909060), Head(16, 2, 2, 16, 5, 256), Head(16, 2, 15, 16, 5, 65536),
+    Head(16, 15, 15, 16, 5, 16777216), Head(16, 15, 15, 1, 5, 255), Head(3, 2, 2, 1, 4096, 1), Head(16, 15, 15, 16, 4096, 1), Head(16, 15, 15, 1, 4096, 1),
     # T's remainder by 64 is 0, 1 and 63, with one block and with several
-    (3, 2, 2, 1, 32, 1), (4, 2, 3, 1, 43, 1), (4, 2, 3, 1, 21, 1), (4, 2, 3, 1, 64, 1), (4, 2, 3, 1, 107, 1), (4, 2, 3, 1, 85, 1),
+    Head(3, 2, 2, 1, 32, 1), Head(4, 2, 3, 1, 43, 1), Head(4, 2, 3, 1, 21, 1), Head(4, 2, 3, 1, 64, 1), Head(4, 2, 3, 1, 107, 1), Head(4, 2, 3, 1, 85, 1),
+]
+PREVIEW_LIMITS = [
+    preview_head(3, 2, 1, 1, 0), preview_head(3, 3, 3, 1, 4294967295), preview_head(16, 2, 1, 5, 16909060), preview_head(16, 2, 16, 5, 256),
+    preview_head(16, 16, 16, 5, 65536), preview_head(16, 16, 1, 1, 16777216), preview_head(3, 2, 1, 4096, 255), preview_head(16, 16, 16, 4096, 1),
+    # the same remainders
+    preview_head(4, 3, 2, 60, 1), preview_head(4, 3, 2, 61, 1), preview_head(4, 3, 2, 59, 1), preview_head(4, 4, 4, 180, 1), preview_head(4, 4, 4, 181, 1),
+    preview_head(4, 4, 4, 179, 1),
 ]
 
 
-def limits():
-    SCRIPT.heading("Shares at the limits: each length right, one less, one more; cut, and lengthened")
-    for seed, head in enumerate(LIMITS, 1):
-        count = total(*head[2:5])
-        whole, part = share_size(count), (0, share_size(count))
+def limits(name, heads):
+    SCRIPT.heading(f"{name} at the limits: each length right, one less, one more; cut, and lengthened")
+    for seed, head in enumerate(heads, 1):
+        count, whole = head.total(), head.size()
+        part = (0, whole)
         size(head)
         SCRIPT.fill((0, whole + 1), (0, whole + 1), seed)
         for letters, out in ((count - 1, whole), (count + 1, whole), (count, whole - 1), (count, whole + 1), (count + 1, whole + 1), (0, 0), (count, whole)):
@@ -159,24 +167,31 @@ OUTSIDE = [
     (2, 2, 2, 1, 1, 1), (17, 2, 2, 1, 1, 1), (3, 1, 2, 1, 1, 1), (4, 3, 2, 1, 1, 1), (3, 2, 3, 1, 1, 1), (3, 2, 2, 1, 0, 1), (3, 2, 2, 1, 4097, 1),
     (3, 2, 2, 0, 1, 1), (3, 2, 2, 4, 1, 1), (2, 2, 2, 0, 0, 1), (3, 2, 2, 0, 0, 1), (3, 2, 2, 17, 4097, 1), (0, 0, 0, 0, 0, 0),
 ]
+PREVIEW_OUTSIDE = [
+    (2, 2, 0, 1, 1, 1), (17, 2, 0, 1, 1, 1), (3, 1, 0, 1, 1, 1), (3, 4, 0, 1, 1, 1), (16, 17, 0, 1, 1, 1), (3, 2, 1, 1, 1, 1),
+    (3, 2, 2, 1, 1, 1), (3, 2, 16, 1, 1, 1), (3, 2, 0, 1, 0, 1), (3, 2, 0, 1, 4097, 1), (3, 2, 0, 0, 1, 1), (3, 2, 0, 4, 1, 1), (2, 2, 0, 0, 0, 1),
+    (3, 2, 0, 0, 0, 1), (3, 2, 2, 0, 0, 1), (3, 2, 0, 17, 4097, 1), (0, 0, 0, 0, 0, 0),
+]
 
 
-def outside():
-    SCRIPT.heading("Numbers outside their ranges, alone and together")
+def outside(name, heads):
+    SCRIPT.heading(f"{name} outside their ranges, alone and together")
     SCRIPT.fill((0, 90), (0, 90), 9)
-    for head in OUTSIDE:
+    for head in heads:
         size(head)
         for letters, out in ((2, 81), (1, 81), (2, 80), (0, 0)):
             write((0, letters), (0, out), head)
 
 
 # T leaves 0, 1 and 63 over 64
-SMALL = [(3, 2, 2, 1, 32, 1), (6, 2, 5, 1, 13, 16909060), (4, 2, 3, 1, 21, 4294967295)]
+SMALL = [Head(3, 2, 2, 1, 32, 1), Head(6, 2, 5, 1, 13, 16909060), Head(4, 2, 3, 1, 21, 4294967295)]
+SMALL_PREVIEWS = [preview_head(4, 3, 2, 60, 1), preview_head(6, 6, 5, 40, 16909060), preview_head(5, 2, 3, 60, 4294967295)]
 
 
-def sweeps():
-    for seed, head in enumerate(SMALL, 3):
-        SCRIPT.heading("A small share, each of its bytes as each other byte")
+def sweeps(name, heads, beginnings):
+    """Of the beginnings only the head's bytes are swept, and two behind it."""
+    for seed, head in enumerate(heads, 3):
+        SCRIPT.heading(f"{name}, each of its bytes as each other byte")
         count, whole = made(head, seed)
         for at in range(whole):
             sweep((0, whole), at)
@@ -186,7 +201,7 @@ def sweeps():
         for at in (0, 1, 2, 3, 4, 5, 6, 11, 76, whole - 5, whole - 4, whole - 1):
             sweep((0, at + 1), at)
     SCRIPT.heading("The beginning of a share of several blocks, and of the largest")
-    for head, length in (((4, 2, 3, 1, 26, 258), 95), ((16, 15, 15, 16, 4096, 4294967295), 100)):
+    for head, length in beginnings:
         made(head, 5)
         for at in [*range(12), 76, 91]:
             sweep((0, length), at)
@@ -209,13 +224,22 @@ def changed(edits, whole, room):
         SCRIPT.put((at, 1), NONE, [own[at]])
 
 
-def places():
-    for head in SMALL + [(16, 3, 5, 7, 256, 9)]:
-        SCRIPT.heading("Where the first wrong byte is: L found at its second byte, k too large, d below it, node too large, and several wrong")
+def head_edits(head):
+    """Edits of a head's numbers: of either kind those of L, the node and n, and of its own kind those of k and d, and the other kind."""
+    n, k = head.n, head.k
+    either = [[(4, n + 1)], [(4, 0), (0, 2)], [(1, 17), (2, 17)], [(1, 2)], [(6, 255), (11, 9)]]
+    lengths = [[(5, 0), (6, 0)], [(5, 1), (6, 16)], [(5, 0), (6, 16)], [(5, 0), (6, 1)]]
+    if head.kind == REPAIRING:
+        return lengths + [[(2, n)], [(2, n - 1), (3, n - 2)], [(3, k - 1)], [(3, n)]] + either + [[(0, PREVIEWS)], [(0, PREVIEWS), (3, 0)]]
+    own = [[(2, n + 1)], [(2, n)], [(2, 1)], [(3, k)], [(3, 1)], [(3, n - 1)], [(3, 255)], [(2, n + 1), (3, k)], [(3, 1), (4, 0)]]
+    return lengths + own + either + [[(0, REPAIRING)], [(0, REPAIRING), (3, max(k, n - 1))], [(0, 6)], [(0, 4)]]
+
+
+def places(name, heads):
+    for head in heads:
+        SCRIPT.heading(name)
         count, whole = made(head, 21)
-        n, k, d, node = head[:4]
-        for edits in ([(5, 0), (6, 0)], [(5, 1), (6, 16)], [(5, 0), (6, 16)], [(5, 0), (6, 1)], [(2, n)], [(2, n - 1), (3, n - 2)], [(3, k - 1)], [(3, n)],
-                      [(4, n + 1)], [(4, 0), (0, 2)], [(1, 17), (2, 17)], [(1, 2)], [(6, 255), (11, 9)]):
+        for edits in head_edits(head):
             changed(edits, whole, count)
         SCRIPT.heading("A last block or an end in the place of the other, fill, the total at each of its bytes, and whatever comes after the end")
         last = whole - 70
@@ -241,14 +265,11 @@ def damaged(chooser, whole):
     return at, own
 
 
-def damages():
-    chooser = Chooser(81)
+def damages(name, chosen, seed):
+    chooser = Chooser(seed)
     for _ in range(24):
-        n = chooser.within(3, 16)
-        d = chooser.within(2, n - 1)
-        length = chooser.one_of([1, 2, 5, 9, 16, 31, 33, 64])
-        head = (n, chooser.within(2, d), d, chooser.within(1, n), length, chooser.within(0, 32767) * 131071)
-        SCRIPT.heading("A share of the generator, damaged a byte at a time, cut and lengthened")
+        head = chosen(chooser, [1, 2, 5, 9, 16, 31, 33, 64])
+        SCRIPT.heading(f"{name} of the generator, damaged a byte at a time, cut and lengthened")
         count, whole = made(head, chooser.x)
         read((0, whole), (0, count))
         for _ in range(8):
@@ -271,25 +292,31 @@ def damages():
         read((0, whole), (0, count))
 
 
-def heads():
-    SCRIPT.heading("Heads of the generator, most of them with a number outside its range")
-    chooser = Chooser(11)
+def heads(name, chosen, seed):
+    SCRIPT.heading(f"{name} of the generator, most of them with a number outside its range")
+    chooser = Chooser(seed)
     for _ in range(250):
-        n = chooser.within(2, 17)
-        d = chooser.within(1, n)
-        data = [1, n, chooser.within(1, d), d, chooser.within(0, n + 1), chooser.one_of([0, 1, 255]), chooser.one_of([0, 1, 15, 16, 17])]
-        SCRIPT.put((0, 15), NONE, data + [chooser.within(0, 255) for _ in range(4)] + [chooser.one_of([1, 2, 2, 3, 4])] + [7, 0, 9])
+        SCRIPT.put((0, 15), NONE, chosen(chooser))
         judged((0, chooser.within(1, 15)))
 
 
 def main():
-    desk()
-    limits()
-    outside()
-    sweeps()
-    places()
-    damages()
-    heads()
+    desk("The desk's share", Head(3, 2, 2, 1, 1, 7), [0x11, 0x50])
+    limits("Shares", LIMITS)
+    outside("Numbers", [Head(*numbers) for numbers in OUTSIDE])
+    sweeps("A small share", SMALL, ((Head(4, 2, 3, 1, 26, 258), 95), (Head(16, 15, 15, 16, 4096, 4294967295), 100)))
+    places("Where the first wrong byte is: L found at its second byte, k too large, d below it, node too large, and several wrong",
+           SMALL + [Head(16, 3, 5, 7, 256, 9)])
+    damages("A share", chosen_head, 81)
+    heads("Heads", chosen_bytes, 11)
+    desk("A preview's share", preview_head(3, 2, 1, 1, 7), [0x01, 0x10])
+    limits("Shares of previews", PREVIEW_LIMITS)
+    outside("Numbers of previews", [Head(*numbers, PREVIEWS) for numbers in PREVIEW_OUTSIDE])
+    sweeps("A preview's small share", SMALL_PREVIEWS, ((preview_head(4, 4, 3, 120, 258), 95), (preview_head(16, 16, 16, 4096, 4294967295), 100)))
+    places("Where the first wrong byte of a preview's share is: L found at its second byte, k above n, a d, node too large, another kind, and several wrong",
+           SMALL_PREVIEWS + [preview_head(16, 16, 7, 256, 9)])
+    damages("A preview's share", chosen_preview, 82)
+    heads("Heads of previews", chosen_preview_bytes, 13)
     SCRIPT.write("share_runs")
 
 

@@ -5,6 +5,9 @@ bound to have, and letters, which may be any. So the first byte that can't stand
 first that is another than the share of that head is bound to have, or the one after its last. Which part of a share stands at
 that index tells how the bytes are refused.
 """
+from collections import namedtuple
+
+from elimination import preview_shift, shift
 from script import listed
 
 ANY = range(256)
@@ -14,12 +17,42 @@ def number(value, size):
     return [value >> (8 * i) & 255 for i in range(size)]
 
 
-def in_range(n, k, d):
-    return 3 <= n <= 16 and 2 <= k <= d <= n - 1
+# the kinds of head: a node's packets of the repairing code, and a node's packet of previews, whose d is 0
+REPAIRING, PREVIEWS = 1, 5
+KINDS = (REPAIRING, PREVIEWS)
 
 
-def total(d, node, length):
-    return d * (length + (node - 1) * (d - 1))
+class Head(namedtuple("Head", "n k d node l batch kind", defaults=[REPAIRING])):
+    """Any numbers; with no kind said, of the repairing code."""
+
+    def in_range(self):
+        """n, k and d are (document 01's ranges and Ask 4's)."""
+        if self.kind == PREVIEWS:
+            return 3 <= self.n <= 16 and 2 <= self.k <= self.n and self.d == 0
+        return 3 <= self.n <= 16 and 2 <= self.k <= self.d <= self.n - 1
+
+    def total(self):
+        """T, the letters of its share."""
+        if self.kind == PREVIEWS:
+            return self.l + preview_shift(self.node, self.k)
+        return self.d * (self.l + shift(self.node, self.d))
+
+    def size(self):
+        """The bytes of its share."""
+        return share_size(self.total())
+
+    def record(self):
+        return [self.kind, self.n, self.k, self.d, self.node] + number(self.l, 2) + number(self.batch, 4)
+
+
+def preview_head(n, k, node, length, batch):
+    return Head(n, k, 0, node, length, batch, PREVIEWS)
+
+
+def head_in(data):
+    """The head whose record these bytes begin with."""
+    kind, n, k, d, node = data[:5]
+    return Head(n, k, d, node, data[5] + 256 * data[6], sum(data[7 + i] << (8 * i) for i in range(4)), kind)
 
 
 # the parts of a share where not any byte may stand, by the number of the refusal of one that can't; and what is no part of it
@@ -37,9 +70,9 @@ def settled(letters):
     return found + [(at, 4, KIND)] + [(at + 1 + i, byte, TOTAL) for i, byte in enumerate(number(letters, 4))]
 
 
-# every head of document 01's ranges (docs/SCHEME.md, 1) but for its batch, which may be any: what stands before L, and L itself
-STARTS = [(1, n, k, d, node) for n in range(3, 17) for d in range(2, n) for k in range(2, d + 1) for node in range(1, n + 1)
-          if in_range(n, k, d)]
+# every head of the documents' ranges but for its batch, which may be any: what stands before L, and L itself
+STARTS = [(kind, n, k, d, node) for kind in KINDS for n in range(3, 17) for d in range(n) for k in range(2, n + 1) for node in range(1, n + 1)
+          if Head(n, k, d, node, 1, 0, kind).in_range()]
 START_PREFIXES = {start[:count] for start in STARTS for count in range(6)}
 LENGTHS = [tuple(number(length, 2)) for length in range(1, 4097)]
 LENGTH_PREFIXES = {length[:count] for length in LENGTHS for count in range(3)}
@@ -69,15 +102,13 @@ def judge(data):
             return NUMBER if at else KIND, at
     if len(data) < 11:
         return 7, None
-    n, k, d, node = data[1:5]
-    length = data[5] + 256 * data[6]
-    letters = total(d, node, length)
-    wrong = settled_wrong(data, letters)
+    head = head_in(data)
+    wrong = settled_wrong(data, head.total())
     if wrong:
         return wrong
-    if len(data) < share_size(letters):
+    if len(data) < head.size():
         return 7, None
-    return 0, (n, k, d, node, length, sum(data[7 + i] << (8 * i) for i in range(4)))
+    return 0, head
 
 
 # a judgment as the programs write it
@@ -116,8 +147,8 @@ def swept(data, at):
     return runs(found)
 
 
-def share(n, k, d, node, length, batch, letters):
-    data = [1, n, k, d, node] + number(length, 2) + number(batch, 4)
+def share(head, letters):
+    data = head.record()
     blocks = [letters[i:i + 64] for i in range(0, len(letters), 64)]
     for block in blocks:
         data += [2 if len(block) == 64 else 3] + block + [0] * (64 - len(block))
@@ -126,3 +157,39 @@ def share(n, k, d, node, length, batch, letters):
 
 def share_size(letters):
     return 11 + (letters + 63) // 64 * 65 + 5
+
+
+# heads of the generator (a Chooser of tools/script.py)
+
+
+def chosen_head(chooser, lengths):
+    n = chooser.within(3, 16)
+    d = chooser.within(2, n - 1)
+    length = chooser.one_of(lengths)
+    return Head(n, chooser.within(2, d), d, chooser.within(1, n), length, chooser.within(0, 32767) * 131071)
+
+
+def chosen_preview(chooser, lengths):
+    n = chooser.within(3, 16)
+    length = chooser.one_of(lengths)
+    return preview_head(n, chooser.within(2, n), chooser.within(1, n), length, chooser.within(0, 32767) * 131071)
+
+
+def chosen_bytes(chooser):
+    """The bytes of a head, most often with a number outside its range, and four bytes after it."""
+    n = chooser.within(2, 17)
+    d = chooser.within(1, n)
+    return chosen_rest([REPAIRING, n, chooser.within(1, d), d], chooser)
+
+
+def chosen_preview_bytes(chooser):
+    """The same of previews, and now and then of another kind with such numbers."""
+    n = chooser.within(2, 17)
+    kind = chooser.one_of([PREVIEWS, PREVIEWS, PREVIEWS, PREVIEWS, PREVIEWS, PREVIEWS, REPAIRING, 6])
+    return chosen_rest([kind, n, chooser.within(1, n + 1), chooser.one_of([0, 0, 0, 0, 0, 1, 2, n])], chooser)
+
+
+def chosen_rest(start, chooser):
+    """Behind the kind, n, k and d."""
+    data = start + [chooser.within(0, start[1] + 1), chooser.one_of([0, 1, 255]), chooser.one_of([0, 1, 15, 16, 17])]
+    return data + [chooser.within(0, 255) for _ in range(4)] + [chooser.one_of([1, 2, 2, 3, 4])] + [7, 0, 9]

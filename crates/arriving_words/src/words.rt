@@ -1,8 +1,8 @@
-// The eight words of a state, by their numbers 0 to 7: a caller in C holds them as bare memory, so each can be anything.
+// The nine words of a state, by their numbers 0 to 8: a caller in C holds them as bare memory, so each can be anything.
 use arriving::Arriving;
 
 // All of them.
-pub fn of(state: Arriving) -> [usize; 8] {
+pub fn of(state: Arriving) -> [usize; 9] {
     [
         state.at,
         state.wrong,
@@ -12,6 +12,7 @@ pub fn of(state: Arriving) -> [usize; 8] {
         state.node,
         state.l,
         state.batch,
+        state.kind,
     ]
 }
 
@@ -26,7 +27,8 @@ pub fn with(state: Arriving, i: usize, number: usize) -> Arriving {
         4 => other.d = number,
         5 => other.node = number,
         6 => other.l = number,
-        _ => other.batch = number,
+        7 => other.batch = number,
+        _ => other.kind = number,
     }
     other
 }
@@ -36,7 +38,7 @@ pub fn same(a: Arriving, b: Arriving) -> bool {
     let these = of(a);
     let those = of(b);
     let mut i = 0;
-    while i < 8 {
+    while i < 9 {
         if these[i] != those[i] {
             return false;
         }

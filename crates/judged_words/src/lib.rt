@@ -35,12 +35,20 @@ pub fn say(number: usize, place: usize) {
     }
 }
 
-// Writes 0 and a head: n, k, d, node, L, batch.
+// Writes 0 and a head: n, k, d, node, L, batch, kind.
 pub fn head(head: Head) {
     let g = head.group;
     script::numbers(
         b"0 of",
-        &[g.n, g.k, g.d, head.node, g.l, head.batch as usize],
+        &[
+            g.n,
+            g.k,
+            g.d,
+            head.node,
+            g.l,
+            head.batch as usize,
+            head.kind,
+        ],
     );
 }
 

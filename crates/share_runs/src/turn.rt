@@ -10,20 +10,27 @@ fn judgment(judgment: Judgment) {
     judged_words::tell(judgment);
 }
 
-// 21 writes a share with a batch number, and 22 tells how long it is: they are handed a group and a node. 23 judges, 24 reads, 25 judges
-// what is in B with every byte at an index, and 26 tells how many bytes can stand.
+// The calls that are handed a group and a node: 21 writes a share with a batch number, and 22 tells how long it is; 27 and 28 do it for previews.
+fn stored(line: Line, from: &[u8], into: &mut [u8]) -> Answer {
+    let operation = line.operation;
+    let batch = (line.second % 4294967296) as u32;
+    match operation {
+        21 => share::write(line.group, line.first, batch, from, into),
+        22 => share::share_bytes(line.group, line.first),
+        27 => share::write_preview(line.group, line.first, batch, from, into),
+        _ => share::preview_bytes(line.group, line.first),
+    }
+}
+
+// 23 judges, 24 reads, 25 judges what is in B with every byte at an index, and 26 tells how many bytes can stand. The others are those above.
 fn done(line: Line, from: &[u8], into: &mut [u8]) {
     let operation = line.operation;
     match operation {
-        21 => {
-            let batch = (line.second % 4294967296) as u32;
-            script::answer(share::write(line.group, line.first, batch, from, into));
-        }
-        22 => script::answer(share::share_bytes(line.group, line.first)),
         23 => judgment(share::judge(from)),
         24 => judgment(share::read(from, into)),
         25 => sweep::every_byte(into, line.own),
-        _ => script::answer(Answer::Value(share::good_bytes(from))),
+        26 => script::answer(Answer::Value(share::good_bytes(from))),
+        _ => script::answer(stored(line, from, into)),
     }
 }
 

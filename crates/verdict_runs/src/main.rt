@@ -1,5 +1,5 @@
-// The judge's line for every kind of bytes (docs/SCHEME.md, 13): the examples P9 to P12, each thing that can be wrong, the largest numbers, and the
-// two sides of 65,536 bytes. The file stdout has what it must write, by hand from that page.
+// The judge's line for every kind of bytes (docs/SCHEME.md, 13): the examples P9 to P12, each thing that can be wrong, a preview's share, the largest
+// numbers, and the two sides of 65,536 bytes. The file stdout has what it must write, by hand from that page.
 use libc::STDOUT_FILENO;
 
 // Some words, and after them the line for these bytes.
@@ -50,6 +50,24 @@ fn examples() {
     wrong(&share);
 }
 
+// A preview's share, its beginning, and what its head can't have: k above n, a d, the kind of the other code, and a kind that there isn't.
+fn judged_preview(share: &[u8]) {
+    show(b"a preview: ", share);
+    show(b"its first 80 bytes: ", lines::part(share, 0, 80));
+    changed(b"a preview with k 4: ", share, 2, 4);
+    changed(b"a preview with d 2: ", share, 3, 2);
+    changed(b"a preview as kind 1: ", share, 0, 1);
+    changed(b"a preview as kind 6: ", share, 0, 6);
+}
+
+// [3,2], L = 1, the file 01 10, node 1, batch 7.
+fn preview() {
+    let g = group::of(3, 2, 0, 1);
+    let mut share = [0u8; 81];
+    share::write_preview(g, 1, 7, &[0x01, 0x10], &mut share);
+    judged_preview(&share);
+}
+
 // Writes a node's share of [16,15,15], L = 4,096, from so many letters to so many bytes.
 fn write(node: usize, batch: u32, packets: &[u8], letters: usize, room: &mut [u8], bytes: usize) {
     let g = group::of(16, 15, 15, 4096);
@@ -88,6 +106,7 @@ fn main() {
     let mut share = lines::room();
     let zeros = lines::room();
     examples();
+    preview();
     lines::scatter(&mut packets, 1);
     large(&packets, &mut share);
     malformed(&zeros);

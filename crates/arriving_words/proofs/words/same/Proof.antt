@@ -1,4 +1,4 @@
--- `words::same` is safe: the index stays within the eight words.
+-- `words::same` is safe: the index stays within the nine words.
 use mathlib.Core.Path.{_≡_}
 use Prim.Native.Nat.{_-_, _≤_}
 use lib.ListN.{length}
@@ -7,10 +7,10 @@ use Rattle.arriving_words.proofs.words.same.Statement.{statement}
 use Rattle.arriving_words.proofs.words.same.Tie as tie
 
 abbrev Inv-loop : tie.InvT-loop
-Inv-loop these those i₀ i = (i ≤ 8) × (length these ≡ 8) × (length those ≡ 8)
+Inv-loop these those i₀ i = (i ≤ 9) × (length these ≡ 9) × (length those ≡ 9)
 
 abbrev μ-loop : tie.MeasureT-loop
-μ-loop these those i₀ i = 8 - i
+μ-loop these those i₀ i = 9 - i
 
 of-requires : tie.Need-of-requires Inv-loop μ-loop
 of-requires c κs = search needs
