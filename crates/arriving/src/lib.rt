@@ -71,7 +71,11 @@ fn state_with(at: usize, wrong: usize, head: Head) -> Arriving
 fn wrong_at(head: Head, at: usize) -> Arriving
     ensures { λ r. ⌜ r ≡ stateWith at (numberAt (head .kind) (heads .total head) at) head ⌝ }
 {
-    state_with(at, reaching::number_at(head.kind, head_bytes::total(head), at), head)
+    state_with(
+        at,
+        reaching::number_at(head.kind, head_bytes::total(head), at),
+        head,
+    )
 }
 
 impl Arriving {

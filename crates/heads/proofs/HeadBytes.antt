@@ -95,9 +95,10 @@ module _ (xs : List ℕ) (bytes : Bytes xs) where
       → Offends heads xs (5 + q) ↔ Outside (rowOf kind .leastL) (rowOf kind .mostL) (numberIn (wide kind) 5 xs)
   unfolding headIn headSize
   length-found q last h s =
-      tested xs bytes (5 + q) h s (omega arith)
-      (λ f w. not-both _ (length-test (headIn xs) q ∙ range-held (wide kind) (rowOf kind .leastL) (rowOf kind .mostL) (headIn xs .group .l) (w .0) (w .1) q) f,
-      λ n. fails-if _ (λ t. n (told t)))
+      tested xs bytes (5 + q) h s (omega arith) (
+        λ f w. not-both _ (length-test (headIn xs) q ∙ range-held (wide kind) (rowOf kind .leastL) (rowOf kind .mostL) (headIn xs .group .l) (w .0) (w .1) q) f,
+        λ n. fails-if _ (λ t. n (told t)),
+      )
     where
       told : getD (heads .headTests xs) (5 + q) true ≡ true → (rowOf kind .leastL ≤ numberIn (wide kind) 5 xs) × (numberIn (wide kind) 5 xs ≤ rowOf kind .mostL)
       told t =
