@@ -1,5 +1,5 @@
 -- The rules of documents 01 and 02 (docs/SCHEME.md, 2 and 17) have refined increasing differences: a step of one column is worth i - 1 places at node i under the one, and i under the other.
-use mathlib.Core.Path.{_≡_, sym, subst}
+use mathlib.Core.Path.{_≡_, sym, ap, subst}
 use mathlib.Core.Logic.{⊎-elim}
 use Prim.Native.Nat.{ℕ, _+_, _-_, _*_, _≤_, _<_}
 use native.Mathlib.Nat.{mul-le-mul, mul-le-mul-left, mul-pos, mul-add, add-mul, eq-or-lt-of-le}
@@ -52,7 +52,19 @@ pub at-most : (i j : ℕ) → i ≤ 16 → j ≤ 16 → t i j ≤ 225
 unfolding t
 at-most i j hi hj = mul-le-mul {n₂ = 15} {m₂ = 15} (omega arith) (omega arith)
 
--- and none of a preview is above 240
+-- with one node more than the table has, none is above 240
+pub one-node-more : (i j : ℕ) → i ≤ 17 → j ≤ 16 → t i j ≤ 240
+unfolding t
+one-node-more i j hi hj = mul-le-mul {n₂ = 16} {m₂ = 15} (omega arith) (omega arith)
+
+-- the previews' rule is that of the node after
+pub preview-next : (i j : ℕ) → t (i + 1) j ≡ previewShift i j
+unfolding t previewShift
+preview-next i j = ap (λ m. m * (j - 1)) back
+  where
+    back : i + 1 - 1 ≡ i
+    back = omega arith
+
+-- so none of a preview is above 240
 pub preview-at-most : (i j : ℕ) → i ≤ 16 → j ≤ 16 → previewShift i j ≤ 240
-unfolding previewShift
-preview-at-most i j hi hj = mul-le-mul {n₂ = 16} {m₂ = 15} hi (omega arith)
+preview-at-most i j hi hj = omega (arith, preview-next i j, one-node-more (i + 1) j (omega arith) hj)

@@ -22,18 +22,26 @@ pub fn shift_in(table: &[u8], node: usize, column: usize) -> usize
     table[(node - 1) * 16 + (column - 1)] as usize
 }
 
+// The rule, for one node more than the table has.
+fn product(node: usize, column: usize) -> usize
+    requires { ⌜ (1 ≤ node) × (node ≤ 17) × (1 ≤ column) × (column ≤ 16) ⌝ }
+    ensures { λ r. ⌜ (r ≡ t node column) × (r ≤ 240) ⌝ }
+{
+    (node - 1) * (column - 1)
+}
+
 // The same for one shift alone, by the rule: to lay the table out for it takes ten times as long.
 pub fn shift(node: usize, column: usize) -> usize
     requires { ⌜ (1 ≤ node) × (node ≤ 16) × (1 ≤ column) × (column ≤ 16) ⌝ }
     ensures { λ r. ⌜ r ≡ t node column ⌝ }
 {
-    (node - 1) * (column - 1)
+    product(node, column)
 }
 
-// The shift of `node` at `column` under the previews' rule, by the rule: node 16's is outside the table.
+// The shift of `node` at `column` under the previews' rule, which is that of the node after it: so node 16's is outside the table.
 pub fn preview_shift(node: usize, column: usize) -> usize
     requires { ⌜ (1 ≤ node) × (node ≤ 16) × (1 ≤ column) × (column ≤ 16) ⌝ }
     ensures { λ r. ⌜ (r ≡ previewShift node column) × (r ≤ 240) ⌝ }
 {
-    node * (column - 1)
+    product(node + 1, column)
 }

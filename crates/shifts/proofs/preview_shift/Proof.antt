@@ -1,23 +1,18 @@
--- `preview_shift` meets its contract: it is the rule, and with both numbers at most 16 nothing overflows.
-use mathlib.Core.Path.{refl}
-use native.Mathlib.Omega.{arith}
-use Rattle.shifts.specs.Rule.{previewShift}
-use Rattle.shifts.proofs.Rule.{preview-at-most}
+-- `preview_shift` meets its contract: the previews' rule is that of the node after.
+use mathlib.Core.Path.{_∙_}
+use Rattle.shifts.proofs.Rule.{preview-next}
 use borrow.Author.Needs.{needs}
 use Rattle.shifts.proofs.preview_shift.Statement.{statement}
 use Rattle.shifts.proofs.preview_shift.Tie as tie
 
-sub-result : tie.Need-sub-result
-sub-result c = search needs
+add-product : tie.Need-add-product
+add-product c = search needs
 
-mul-result : tie.Need-mul-result
-unfolding previewShift
-mul-result c = let s = c in omega (arith, preview-at-most (s .args .node) (s .args .column) (omega (arith, s .pre)) (omega (arith, s .pre)))
+product-requires : tie.Need-product-requires
+product-requires c κs = search needs
 
 returns : tie.Need-returns
-unfolding previewShift
-returns c = let s = c in
-    (refl, preview-at-most (s .args .node) (s .args .column) (omega (arith, s .pre)) (omega (arith, s .pre)))
+returns c = let a = c .before .args in (c .product .ensures .0 ∙ preview-next (a .node) (a .column), c .product .ensures .1)
 
 pub preview-shift-spec : {M : Type 1} → statement M
-preview-shift-spec = tie.close (tie.spec sub-result mul-result returns)
+preview-shift-spec = tie.close (tie.spec add-product product-requires returns)
