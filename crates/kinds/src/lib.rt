@@ -1,7 +1,6 @@
 // The kinds of head that a share may have, as rows of one table: the ranges of a kind's numbers, the bytes of its L, and its T. A later kind is a
 // row more, here and in specs/Kinds.antt.
-mod totals;
-
+use group::Answer;
 use group::Check;
 use group::Group;
 use group::Refusal;
@@ -9,7 +8,7 @@ use group::checks;
 use preview_numbers::checks as previews;
 ghost use mathlib.Core.Path.{_≡_};
 ghost use Prim.Native.Nat.{_-_};
-ghost use Rattle.group.specs.Answers.{checkNumber};
+ghost use Rattle.group.specs.Answers.{checkNumber, valueOf};
 ghost use Rattle.kinds.specs.Kinds.{isKind, rowOf, rowTotal, headSize};
 ghost use Rattle.kinds.specs.Steps.Rows.{limitsAt};
 
@@ -95,15 +94,25 @@ pub fn check(kind: usize, g: Group, node: usize) -> Check
     Check::Refused(Refusal::Numbers)
 }
 
+// The value of an answer; a refusal carries 0.
+fn value_of(answer: Answer) -> usize
+    ensures { λ r. ⌜ r ≡ valueOf answer ⌝ }
+{
+    match answer {
+        Answer::Value(value) => value,
+        Answer::Refused(_) => 0,
+    }
+}
+
 // T, the letters of a share with these numbers; 0 where they are out of range, or where this is no kind.
 pub fn total(kind: usize, g: Group, node: usize) -> usize
     ensures { λ r. ⌜ r ≡ rowTotal (rowOf kind) g node ⌝ }
 {
     if kind == REPAIRING {
-        return totals::repairing(g, node);
+        return value_of(lengths::packet_letters(g, node));
     }
     if kind == PREVIEWS {
-        return totals::previews(g, node);
+        return value_of(preview_numbers::packet_letters(g, node));
     }
     0
 }

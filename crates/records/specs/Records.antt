@@ -49,13 +49,6 @@ abbrev pub numberIn : ℕ → ℕ → List ℕ → ℕ
 numberIn zero at xs = 0
 numberIn (suc size) at xs = getD xs at 0 + 256 * numberIn size (suc at) xs
 
--- the number of two or four bytes
-abbrev pub pair : ℕ → ℕ → ℕ
-pair a b = a + 256 * b
-
-abbrev pub four : ℕ → ℕ → ℕ → ℕ → ℕ
-four a b c d = a + 256 * (b + 256 * (c + 256 * d))
-
 -- so many full blocks of the letters
 unfoldable pub fullBlocks : ℕ → List ℕ → List ℕ
 fullBlocks zero letters = []
