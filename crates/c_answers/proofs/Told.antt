@@ -4,7 +4,7 @@ use mathlib.Core.List.{List}
 use Prim.Native.Nat.{ℕ, zero, suc}
 use Rattle.group.specs.declared.Refusal.{Refusal}
 use Rattle.group.specs.declared.Answer.{Answer}
-use Rattle.group.specs.Answers.{Called, Solves, numberOf, valueOf, ifFine, Answers}
+use Rattle.group.specs.Answers.{Called, SolvesInPlace, numberOf, valueOf, ifFine, Answers}
 use Rattle.group.proofs.Refusals.{numbered, if-refused, if-fine}
 use Rattle.c_answers.specs.Exports.{Tells, Fills, SolvesTold}
 
@@ -34,7 +34,7 @@ fills-of a q v right before after r done e = record { returned = e ∙ done .ans
 
 pub solves-told-of :
     (a : Answer) (q : ℕ) (given : List ℕ → List ℕ) (worth : List ℕ → ℕ) (before after : List ℕ) (count count′ r : ℕ)
-    → Solves q given worth before after a → r ≡ numberOf a → count′ ≡ ifFine (numberOf a) (valueOf a) count
+    → SolvesInPlace q given worth before after a → r ≡ numberOf a → count′ ≡ ifFine (numberOf a) (valueOf a) count
     → SolvesTold q given worth before after count count′ r
 solves-told-of a q given worth before after count count′ r done e h =
     record {

@@ -15,7 +15,7 @@ pub record Fills (refusal : ℕ) (right before after : List ℕ) (r : ℕ) : Typ
   pub returned : r ≡ refusal
   pub holds : after ≡ ifFine refusal right before
 
--- a call that solves in place (`Solves`), whose count is told
+-- a call that solves in place (`SolvesInPlace`), whose count is told
 pub record SolvesTold (refusal : ℕ) (gives : List ℕ → List ℕ) (worth : List ℕ → ℕ) (before after : List ℕ) (count count′ r : ℕ) : Type 0 where
   pub tells : Tells refusal (worth after) count count′ r
   pub same-length : length after ≡ length before

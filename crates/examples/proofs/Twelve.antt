@@ -22,7 +22,7 @@ use Rattle.layout.proofs.Judgments.{cut-is-beginning, share-then-more, nothing-
 use Rattle.heads.specs.Heads.{heads}
 use Rattle.share.specs.Calls.{headFor}
 use Rattle.judging.specs.Judging.{WouldStand, Wrong, Judges}
-use Rattle.kinds.specs.Kinds.{isKind, rowOf}
+use Rattle.kinds.specs.Kinds.{isKind, rowForKind}
 use Rattle.kinds.proofs.RowLaws.{node-repairing}
 use Rattle.heads.specs.Heads.{HeadNumbers}
 use Rattle.heads.proofs.HeadLaws.{lawful, total-of}
@@ -56,12 +56,12 @@ in-range =
 
 -- so its head's numbers are in the ranges of kind 1
 allowed : HeadNumbers (headFor one 1 7)
-unfolding isKind rowOf
+unfolding isKind rowForKind
 allowed = record { kind = refl; numbers = node-repairing one 1 in-range; batch = omega arith }
 
 -- its bytes are their share
 is-share : ShareOf heads (headFor one 1 7) letters stored
-unfolding shareOf blockRecords fullBlocks lastBlock nodeLetters t rowOf
+unfolding shareOf blockRecords fullBlocks lastBlock nodeLetters t rowForKind
 is-share =
     record {
       allowed = allowed;
@@ -82,7 +82,7 @@ cut any h = Judges.unfinished (cut-is-beginning heads lawful stored 80 some-shar
 
 -- one byte too many stands after the end of the share
 too-many : (any : ℕ) → Wrong (stored ++ (any ∷ [])) AfterEnd 81
-unfolding rowOf
+unfolding rowForKind
 too-many any =
     record {
       offends =
@@ -105,5 +105,5 @@ nothing any h = Judges.unfinished (nothing-begins heads lawful)
 
 -- P1 to P12
 pub twelve-hold : AllHold twelve
-unfolding AllHold twelve packets reading recoveryCost joined helping equations shareOf blockRecords fullBlocks lastBlock rowOf
+unfolding AllHold twelve packets reading recoveryCost joined helping equations shareOf blockRecords fullBlocks lastBlock rowForKind
 twelve-hold = (refl, (refl, (refl, ((refl, refl), ((refl, refl), ((refl, refl), ((refl, refl), ((refl, refl), ((refl, refl, judged), (cut, (longer, (nothing, tt))))))))))))

@@ -9,7 +9,7 @@ use Rattle.group.specs.declared.Refusal.{Refusal}
 use Rattle.group.specs.declared.Answer.{Answer}
 use Rattle.group.specs.Answers.{refusalNumber, numberOf, valueOf, unless, first, Answers}
 use Rattle.group.proofs.Refusals.{numbered, refuses, gives, first-fine, if-refused, if-fine}
-use Rattle.group.specs.Answers.{Called, Solves}
+use Rattle.group.specs.Answers.{Called, SolvesInPlace}
 
 pub call-refused :
     (r : Refusal) (q v : ℕ) (right before : List ℕ) → refusalNumber r ≡ q → Called q v right before before (Answer.Refused r)
@@ -31,7 +31,7 @@ lengths-after q a wa b wb A B z ea eb =
 -- what a refused call that solves in place leaves, and one that isn't refused
 pub solves-refused :
     (r : Refusal) (q : ℕ) (given : List ℕ → List ℕ) (worth : List ℕ → ℕ) (before : List ℕ) → refusalNumber r ≡ q
-    → Solves q given worth before before (Answer.Refused r)
+    → SolvesInPlace q given worth before before (Answer.Refused r)
 solves-refused r q given worth before e =
     record {
       answer = refuses r q (worth before) e;
@@ -41,7 +41,7 @@ solves-refused r q given worth before e =
 
 pub solves-fine :
     (q count : ℕ) (given : List ℕ → List ℕ) (worth : List ℕ → ℕ) (before after : List ℕ) → q ≡ 0 → count ≡ worth after
-    → length after ≡ length before → given after ≡ before → Solves q given worth before after (Answer.Value count)
+    → length after ≡ length before → given after ≡ before → SolvesInPlace q given worth before after (Answer.Value count)
 solves-fine q count given worth before after e counted size is =
     record { answer = gives q count (worth after) e counted; same-length = size; holds = if-fine q (given after) after e ∙ is }
 

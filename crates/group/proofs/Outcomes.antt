@@ -7,7 +7,7 @@ use Rattle.group.specs.declared.Refusal.{Refusal}
 use Rattle.group.specs.declared.Refusal.the-variants.{Numbers, Length, Ids, Order, Input, Output, Unfinished, Kind, HeadNumber, Filler, Total, AfterEnd}
 use Rattle.group.specs.declared.Answer.{Answer}
 use Rattle.group.specs.declared.Answer.the-variants.{Value, Refused}
-use Rattle.group.specs.Answers.{refusalNumber, numberOf, valueOf, ifFine, Answers, Called, Solves}
+use Rattle.group.specs.Answers.{refusalNumber, numberOf, valueOf, ifFine, Answers, Called, SolvesInPlace}
 use Rattle.group.proofs.Refusals.{numbered}
 
 -- the refusal of a number
@@ -74,7 +74,7 @@ by-refusal (suc q) f before after after′ e e′ once = e ∙ sym e′
 pub solves-once :
     (q : ℕ) (given : List ℕ → List ℕ) (worth : List ℕ → ℕ) (before after after′ : List ℕ) (r r′ : Answer)
     → (q ≡ 0 → (xs ys : List ℕ) → length xs ≡ length before → length ys ≡ length before → given xs ≡ given ys → xs ≡ ys)
-    → Solves q given worth before after r → Solves q given worth before after′ r′ → (after ≡ after′) × (r ≡ r′)
+    → SolvesInPlace q given worth before after r → SolvesInPlace q given worth before after′ r′ → (after ≡ after′) × (r ≡ r′)
 solves-once q given worth before after after′ r r′ once c c′ =
     let same = by-refusal q given before after after′ (c .holds) (c′ .holds) (λ z e. once z after after′ (c .same-length) (c′ .same-length) e) in
     (same, answer-once r r′ q (worth after) (worth after′) (c .answer) (c′ .answer) (ap worth same))

@@ -17,7 +17,7 @@ use Rattle.records.specs.Records.{number, numberIn}
 use Rattle.records.specs.Steps.Ranges.{rangeTests}
 use Rattle.records.proofs.NumberBytes.{number-byte, number-none, none-number}
 use Rattle.records.proofs.RangeBytes.{range-any}
-use Rattle.kinds.specs.Kinds.{rowOf, isKind, headSize}
+use Rattle.kinds.specs.Kinds.{rowForKind, isKind, headSize}
 use Rattle.kinds.proofs.RowLaws.{row-laws, kind-small, size-some}
 use Rattle.layout.specs.Laws.{Passes}
 use Rattle.layout.proofs.LaidOut.{append-at-left, append-at-right}
@@ -195,18 +195,18 @@ module _ (xs : List ℕ) (bytes : Bytes xs) (byte : ℕ) (small : byte < 256) wh
   d-test :
       (b : ℕ) → length xs ≡ 3
       → getD (heads .headTests (With b)) 3 true
-      ≡ between (rowOf (getD xs 0 0) .leastD (getD xs 1 0) (getD xs 2 0)) (rowOf (getD xs 0 0) .mostD (getD xs 1 0) (getD xs 2 0)) b
+      ≡ between (rowForKind (getD xs 0 0) .leastD (getD xs 1 0) (getD xs 2 0)) (rowForKind (getD xs 0 0) .mostD (getD xs 1 0) (getD xs 2 0)) b
   unfolding headIn
   d-test b e = rw (next-at xs b 3 e, kept-at xs b 3 e 2 (omega arith), kept-at xs b 3 e 1 (omega arith), kept-at xs b 3 e 0 (omega arith))
 
   l-test :
       (b q : ℕ) → length xs ≡ 5 + q
       → getD (heads .headTests (With b)) (5 + q) true
-      ≡ getD (rangeTests (wide (getD xs 0 0)) (rowOf (getD xs 0 0) .leastL) (rowOf (getD xs 0 0) .mostL) (numberIn (wide (getD xs 0 0)) 5 (With b))) q true
+      ≡ getD (rangeTests (wide (getD xs 0 0)) (rowForKind (getD xs 0 0) .leastL) (rowForKind (getD xs 0 0) .mostL) (numberIn (wide (getD xs 0 0)) 5 (With b))) q true
   unfolding headIn
   l-test b q e =
       length-test (headIn (With b)) q
-      ∙ ap (λ k. getD (rangeTests (wide k) (rowOf k .leastL) (rowOf k .mostL) (numberIn (wide k) 5 (With b))) q true) (kept-at xs b (5 + q) e 0 (omega arith))
+      ∙ ap (λ k. getD (rangeTests (wide k) (rowForKind k .leastL) (rowForKind k .mostL) (numberIn (wide k) 5 (With b))) q true) (kept-at xs b (5 + q) e 0 (omega arith))
 
   pub any-next :
       (p : ℕ) → p < headSize (getD xs 0 0) → length xs ≡ p → getD (heads .headTests (With 0)) p true ≡ true → getD (heads .headTests (With 255)) p true ≡ true
@@ -225,7 +225,7 @@ module _ (xs : List ℕ) (bytes : Bytes xs) (byte : ℕ) (small : byte < 256) wh
       (λ q l e low high.
       let same : (b i : ℕ) → i < q → getD (With b) (5 + i) 0 ≡ getD xs (5 + i) 0 = λ b i h. kept-at xs b (5 + q) e (5 + i) (omega arith) in
       l-test byte q e
-      ∙ range-any (wide (getD xs 0 0)) (rowOf (getD xs 0 0) .leastL) (rowOf (getD xs 0 0) .mostL) 5 (With 0) (With 255) (With byte) q (row-laws (getD xs 0 0) .any-l)
+      ∙ range-any (wide (getD xs 0 0)) (rowForKind (getD xs 0 0) .leastL) (rowForKind (getD xs 0 0) .mostL) 5 (With 0) (With 255) (With byte) q (row-laws (getD xs 0 0) .any-l)
       (λ i h. rw (same byte i h) (any-byte xs bytes (5 + i)))
       (λ i h. (same 0 i h ∙ sym (same byte i h), same 255 i h ∙ sym (same byte i h)))
       (next-at xs 0 (5 + q) e) (next-at xs 255 (5 + q) e) (rw (next-at xs byte (5 + q) e) small)

@@ -17,7 +17,7 @@ use Rattle.group.proofs.InRange.{true-between}
 use Rattle.group.proofs.Refusals.{both-no}
 use Rattle.records.specs.Records.{numberIn}
 use Rattle.records.proofs.RangeBytes.{low-stands, lowest-test, range-told, range-held}
-use Rattle.kinds.specs.Kinds.{repairing, previews, noKind, rowOf, isKind, headSize}
+use Rattle.kinds.specs.Kinds.{repairing, previews, noKind, rowForKind, isKind, headSize}
 use Rattle.kinds.proofs.RowLaws.{row-laws}
 use Rattle.layout.specs.Judgment.{CanStand, Offends}
 use Rattle.layout.specs.Steps.Stands.{stands}
@@ -73,17 +73,17 @@ module _ (xs : List ℕ) (bytes : Bytes xs) where
   unfolding headIn headSize
   n-found h s = tested xs bytes 1 h s (omega arith) (outside 3 mostNodes (getD xs 1 0))
 
-  pub k-found : 2 < length xs → CanStand heads (take 2 xs) → Offends heads xs 2 ↔ Outside 2 (rowOf kind .mostK (getD xs 1 0)) (getD xs 2 0)
+  pub k-found : 2 < length xs → CanStand heads (take 2 xs) → Offends heads xs 2 ↔ Outside 2 (rowForKind kind .mostK (getD xs 1 0)) (getD xs 2 0)
   unfolding headIn headSize
-  k-found h s = tested xs bytes 2 h s (omega arith) (outside 2 (rowOf kind .mostK (getD xs 1 0)) (getD xs 2 0))
+  k-found h s = tested xs bytes 2 h s (omega arith) (outside 2 (rowForKind kind .mostK (getD xs 1 0)) (getD xs 2 0))
 
   pub d-found :
       3 < length xs → CanStand heads (take 3 xs)
-      → Offends heads xs 3 ↔ Outside (rowOf kind .leastD (getD xs 1 0) (getD xs 2 0)) (rowOf kind .mostD (getD xs 1 0) (getD xs 2 0)) (getD xs 3 0)
+      → Offends heads xs 3 ↔ Outside (rowForKind kind .leastD (getD xs 1 0) (getD xs 2 0)) (rowForKind kind .mostD (getD xs 1 0) (getD xs 2 0)) (getD xs 3 0)
   unfolding headIn headSize
   d-found h s =
       tested xs bytes 3 h s (omega arith)
-      (outside (rowOf kind .leastD (getD xs 1 0) (getD xs 2 0)) (rowOf kind .mostD (getD xs 1 0) (getD xs 2 0)) (getD xs 3 0))
+      (outside (rowForKind kind .leastD (getD xs 1 0) (getD xs 2 0)) (rowForKind kind .mostD (getD xs 1 0) (getD xs 2 0)) (getD xs 3 0))
 
   pub node-found : 4 < length xs → CanStand heads (take 4 xs) → Offends heads xs 4 ↔ Outside 1 (getD xs 1 0) (getD xs 4 0)
   unfolding headIn headSize
@@ -92,17 +92,17 @@ module _ (xs : List ℕ) (bytes : Bytes xs) where
   -- where the bytes before L's last one can stand, that one is wrong exactly if the whole L is out of range
   pub length-found :
       (q : ℕ) → q + 1 ≡ wide kind → 5 + q < length xs → CanStand heads (take (5 + q) xs)
-      → Offends heads xs (5 + q) ↔ Outside (rowOf kind .leastL) (rowOf kind .mostL) (numberIn (wide kind) 5 xs)
+      → Offends heads xs (5 + q) ↔ Outside (rowForKind kind .leastL) (rowForKind kind .mostL) (numberIn (wide kind) 5 xs)
   unfolding headIn headSize
   length-found q last h s =
       tested xs bytes (5 + q) h s (omega arith) (
-        λ f w. not-both _ (length-test (headIn xs) q ∙ range-held (wide kind) (rowOf kind .leastL) (rowOf kind .mostL) (headIn xs .group .l) (w .0) (w .1) q) f,
+        λ f w. not-both _ (length-test (headIn xs) q ∙ range-held (wide kind) (rowForKind kind .leastL) (rowForKind kind .mostL) (headIn xs .group .l) (w .0) (w .1) q) f,
         λ n. fails-if _ (λ t. n (told t)),
       )
     where
-      told : getD (heads .headTests xs) (5 + q) true ≡ true → (rowOf kind .leastL ≤ numberIn (wide kind) 5 xs) × (numberIn (wide kind) 5 xs ≤ rowOf kind .mostL)
+      told : getD (heads .headTests xs) (5 + q) true ≡ true → (rowForKind kind .leastL ≤ numberIn (wide kind) 5 xs) × (numberIn (wide kind) 5 xs ≤ rowForKind kind .mostL)
       told t =
-          range-told (wide kind) (rowOf kind .leastL) (rowOf kind .mostL) (numberIn (wide kind) 5 xs) (row-laws kind .some-l) (row-laws kind .room-l) (room-l xs bytes)
+          range-told (wide kind) (rowForKind kind .leastL) (rowForKind kind .mostL) (numberIn (wide kind) 5 xs) (row-laws kind .some-l) (row-laws kind .room-l) (room-l xs bytes)
           (λ i l.
           ⊎-elim (λ here. let e : i ≡ q = omega arith in rw e (sym (length-test (headIn xs) q) ∙ t))
           (λ before. sym (length-test (headIn xs) i) ∙ passed-before xs bytes (5 + q) h s (5 + i) (omega arith) (omega arith))
@@ -116,15 +116,15 @@ module _ (xs : List ℕ) (bytes : Bytes xs) where
       (wrong-if heads lawful xs (5 + wide kind + q) bytes o .wrong)
 
   -- where L has two bytes and begins at 1, its low byte alone is never wrong, and 0 is found at the second
-  module _ (two : wide kind ≡ 2) (one : rowOf kind .leastL ≡ 1) (many : 256 ≤ rowOf kind .mostL) where
+  module _ (two : wide kind ≡ 2) (one : rowForKind kind .leastL ≡ 1) (many : 256 ≤ rowForKind kind .mostL) where
     pub low-never : Offends heads xs 5 → ⊥
     unfolding headIn headSize
     low-never o =
         not-both (stands heads xs 5)
         (stands-head heads xs 5 (omega arith)
         ∙ length-test (headIn xs) 0
-        ∙ lowest-test (wide kind) (rowOf kind .leastL) (rowOf kind .mostL) (headIn xs .group .l) 0 (omega arith) refl
-        ∙ low-stands (rowOf kind .leastL) (rowOf kind .mostL) (headIn xs .group .l % 256) (omega arith) (omega arith))
+        ∙ lowest-test (wide kind) (rowForKind kind .leastL) (rowForKind kind .mostL) (headIn xs .group .l) 0 (omega arith) refl
+        ∙ low-stands (rowForKind kind .leastL) (rowForKind kind .mostL) (headIn xs .group .l % 256) (omega arith) (omega arith))
         (wrong-if heads lawful xs 5 bytes o .wrong)
 
     pub zero-found : 6 < length xs → CanStand heads (take 6 xs) → getD xs 5 0 ≡ 0 → getD xs 6 0 ≡ 0 → Offends heads xs 6
@@ -135,8 +135,8 @@ module _ (xs : List ℕ) (bytes : Bytes xs) where
         omega (arith, w .0))
 
 -- as it is with kinds 1 and 5
-pub two-bytes : (kind : ℕ) → isKind kind ≡ true → (wide kind ≡ 2) × (rowOf kind .leastL ≡ 1) × (256 ≤ rowOf kind .mostL)
-unfolding isKind rowOf
+pub two-bytes : (kind : ℕ) → isKind kind ≡ true → (wide kind ≡ 2) × (rowForKind kind .leastL ≡ 1) × (256 ≤ rowForKind kind .mostL)
+unfolding isKind rowForKind
 two-bytes kind e = by (eqb kind 1) (eqb kind 5) e
   where
     by :

@@ -17,7 +17,7 @@ use Rattle.records.specs.Records.{totalLimit, number, numberIn}
 use Rattle.records.specs.Steps.Ranges.{rangeTests}
 use Rattle.records.proofs.NumberBytes.{length-number, number-same, number-back, number-below, number-own, BytesFrom}
 use Rattle.records.proofs.RangeBytes.{range-held, range-past, range-told, range-same, range-next}
-use Rattle.kinds.specs.Kinds.{rowOf, isKind, headSize, InRow}
+use Rattle.kinds.specs.Kinds.{rowForKind, isKind, headSize, InRow}
 use Rattle.kinds.proofs.RowLaws.{row-laws, kind-fine, fine-kind, total-fine, total-refused, row-small}
 use Rattle.layout.specs.Laws.{Lawful, SameBelow, Passes}
 use Rattle.heads.specs.declared.Head.{Head}
@@ -25,7 +25,7 @@ use Rattle.heads.specs.Heads.{headRecord, HeadNumbers, headTotal, headIn
 
 -- the bytes of L in a head of this kind
 abbrev pub wide : ℕ → ℕ
-wide kind = rowOf kind .lengthBytes
+wide kind = rowForKind kind .lengthBytes
 
 -- what holds at each of the head's offsets holds at any: at the five numbers of one byte, at L's bytes and at the batch's
 pub each-offset :
@@ -101,11 +101,11 @@ module _ (h : Head) where
       (λ q l. ap (λ i. getD (headTests h) i true) (five q) ∙ held q)
       (λ q l. let e : 5 + wide (h .kind) + q ≡ suc (suc (suc (suc (suc (wide (h .kind) + q))))) = omega arith in ap (λ i. getD (headTests h) i true) e ∙ held (wide (h .kind) + q))
     where
-      held : (q : ℕ) → getD (rangeTests (wide (h .kind)) (rowOf (h .kind) .leastL) (rowOf (h .kind) .mostL) (h .group .l)) q true ≡ true
-      held = range-held (wide (h .kind)) (rowOf (h .kind) .leastL) (rowOf (h .kind) .mostL) (h .group .l) (w .numbers .l-low) (w .numbers .l-high)
+      held : (q : ℕ) → getD (rangeTests (wide (h .kind)) (rowForKind (h .kind) .leastL) (rowForKind (h .kind) .mostL) (h .group .l)) q true ≡ true
+      held = range-held (wide (h .kind)) (rowForKind (h .kind) .leastL) (rowForKind (h .kind) .mostL) (h .group .l) (w .numbers .l-low) (w .numbers .l-high)
 
   -- the tests of L's bytes
-  pub length-test : (q : ℕ) → getD (headTests h) (5 + q) true ≡ getD (rangeTests (wide (h .kind)) (rowOf (h .kind) .leastL) (rowOf (h .kind) .mostL) (h .group .l)) q true
+  pub length-test : (q : ℕ) → getD (headTests h) (5 + q) true ≡ getD (rangeTests (wide (h .kind)) (rowForKind (h .kind) .leastL) (rowForKind (h .kind) .mostL) (h .group .l)) q true
   length-test q = ap (λ i. getD (headTests h) i true) (five q)
 
   -- the batch may be any
@@ -113,20 +113,20 @@ module _ (h : Head) where
   batch-test q =
       let e : 5 + wide (h .kind) + q ≡ suc (suc (suc (suc (suc (wide (h .kind) + q))))) = omega arith in
       ap (λ i. getD (headTests h) i true) e
-      ∙ range-past (wide (h .kind)) (rowOf (h .kind) .leastL) (rowOf (h .kind) .mostL) (h .group .l) (wide (h .kind) + q) (omega arith)
+      ∙ range-past (wide (h .kind)) (rowForKind (h .kind) .leastL) (rowForKind (h .kind) .mostL) (h .group .l) (wide (h .kind) + q) (omega arith)
 
 -- T has room in its bytes, and there are letters exactly where kind and numbers are in range
 pub total-small : (h : Head) → headTotal h < totalLimit
 total-small h = row-small (h .kind) (h .group) (h .node)
 
-pub total-of : (h : Head) → HeadNumbers h → headTotal h ≡ rowOf (h .kind) .letters (h .group) (h .node)
+pub total-of : (h : Head) → HeadNumbers h → headTotal h ≡ rowForKind (h .kind) .letters (h .group) (h .node)
 total-of h w = total-fine (h .kind) (h .group) (h .node) (kind-fine (h .kind) (h .group) (h .node) (w .kind) (w .numbers))
 
 pub total-some : (h : Head) → HeadNumbers h → headTotal h ≡ 0 → ⊥
 total-some h w none =
     omega (arith, total-of h w, row-laws (h .kind) .some-letters (h .group) (h .node) (w .numbers))
 
-pub fine-numbers : (h : Head) → h .batch < 2 ^ 32 → rowOf (h .kind) .refusal (h .group) (h .node) ≡ 0 → HeadNumbers h
+pub fine-numbers : (h : Head) → h .batch < 2 ^ 32 → rowForKind (h .kind) .refusal (h .group) (h .node) ≡ 0 → HeadNumbers h
 fine-numbers h batch fine =
     record {
       kind = fine-kind (h .kind) (h .group) (h .node) fine;
@@ -169,8 +169,8 @@ module _ (xs zs : List ℕ) where
       (λ e. rw (e 1 (omega arith), e 4 (omega arith)))
       (λ q l e.
       length-test (headIn xs) q
-      ∙ range-same (wide (getD xs 0 0)) (rowOf (getD xs 0 0) .leastL) (rowOf (getD xs 0 0) .mostL) 5 xs zs q (λ i h. e (5 + i) (omega arith))
-      ∙ ap (λ k. getD (rangeTests (wide k) (rowOf k .leastL) (rowOf k .mostL) (numberIn (wide k) 5 zs)) q true) (e 0 (omega arith))
+      ∙ range-same (wide (getD xs 0 0)) (rowForKind (getD xs 0 0) .leastL) (rowForKind (getD xs 0 0) .mostL) 5 xs zs q (λ i h. e (5 + i) (omega arith))
+      ∙ ap (λ k. getD (rangeTests (wide k) (rowForKind k .leastL) (rowForKind k .mostL) (numberIn (wide k) 5 zs)) q true) (e 0 (omega arith))
       ∙ sym (length-test (headIn zs) q))
       (λ q l e.
       batch-test (headIn xs) q
@@ -207,7 +207,7 @@ module _ (xs : List ℕ) (bytes : Bytes xs) where
   unfolding headIn headSize
   ranged test =
       let h = headIn xs in
-      let row = rowOf (getD xs 0 0) in
+      let row = rowForKind (getD xs 0 0) in
       let laws = row-laws (getD xs 0 0) in
       let n = between-true 3 mostNodes (h .group .n) (test 1 (omega arith)) in
       let k = between-true 2 (row .mostK (h .group .n)) (h .group .k) (test 2 (omega arith)) in
@@ -262,7 +262,7 @@ next xs bytes =
           (true-between 2 _ 2 (omega arith) (row-laws (getD xs 0 0) .some-k (getD xs 1 0) (n .0) (n .1) .0)),
     ))
     (λ e t.
-    let row = rowOf (getD xs 0 0) in
+    let row = rowForKind (getD xs 0 0) in
     let n = between-true 3 mostNodes (getD xs 1 0) (t 1 (omega arith)) in
     let k = between-true 2 (row .mostK (getD xs 1 0)) (getD xs 2 0) (t 2 (omega arith)) in
     let d = row-laws (getD xs 0 0) .some-d (getD xs 1 0) (getD xs 2 0) (n .0) (n .1) (k .0) (k .1) in
@@ -276,7 +276,7 @@ next xs bytes =
     let n = between-true 3 mostNodes (getD xs 1 0) (t 1 (omega arith)) in
     (1, omega arith, rw (next-at xs 1 4 e, kept-at xs 1 4 e 1 (omega arith)) (true-between 1 (getD xs 1 0) 1 (omega arith) (omega (arith, n)))))
     (λ q l e t.
-    let row = rowOf (getD xs 0 0) in
+    let row = rowForKind (getD xs 0 0) in
     let m =
     range-next (wide (getD xs 0 0)) (row .leastL) (row .mostL) 5 xs q (row-laws (getD xs 0 0) .some-l) l (λ i h. any-byte xs bytes (5 + i))
     (λ i h. sym (length-test (headIn xs) i) ∙ t (5 + i) (omega arith))
@@ -284,7 +284,7 @@ next xs bytes =
       m .0,
       m .1,
       length-test (headIn (xs ++ m .0 ∷ [])) q
-          ∙ ap (λ k. getD (rangeTests (wide k) (rowOf k .leastL) (rowOf k .mostL) (numberIn (wide k) 5 (xs ++ m .0 ∷ []))) q true) (kept-at xs (m .0) (5 + q) e 0 (omega arith))
+          ∙ ap (λ k. getD (rangeTests (wide k) (rowForKind k .leastL) (rowForKind k .mostL) (numberIn (wide k) 5 (xs ++ m .0 ∷ []))) q true) (kept-at xs (m .0) (5 + q) e 0 (omega arith))
           ∙ m .2 (xs ++ m .0 ∷ []) (λ i h. kept-at xs (m .0) (5 + q) e (5 + i) (omega arith)) (next-at xs (m .0) (5 + q) e),
     ))
     (λ q l e t. (

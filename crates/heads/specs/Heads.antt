@@ -8,7 +8,7 @@ use lib.ListN.{getD}
 use Rattle.group.specs.Ranges.{groupOf, between, mostNodes}
 use Rattle.records.specs.Records.{number, numberIn}
 use Rattle.records.specs.Steps.Ranges.{rangeTests}
-use Rattle.kinds.specs.Kinds.{rowOf, isKind, headSize, InRow, rowTotal}
+use Rattle.kinds.specs.Kinds.{rowForKind, isKind, headSize, InRow, rowTotal}
 use Rattle.layout.specs.Layout.{Layout}
 use Rattle.heads.specs.declared.Head.{Head}
 
@@ -20,22 +20,22 @@ headRecord h =
     ∷ h .group .k
     ∷ h .group .d
     ∷ h .node
-    ∷ (number (rowOf (h .kind) .lengthBytes) (h .group .l) ++ number 4 (h .batch))
+    ∷ (number (rowForKind (h .kind) .lengthBytes) (h .group .l) ++ number 4 (h .batch))
 
 -- its numbers are in range: there is such a kind, and its row has them
 pub record HeadNumbers (h : Head) : Type 0 where
   pub kind : isKind (h .kind) ≡ true
-  pub numbers : InRow (rowOf (h .kind)) (h .group) (h .node)
+  pub numbers : InRow (rowForKind (h .kind)) (h .group) (h .node)
   pub batch : h .batch < 2 ^ 32
 
 -- T by the head's numbers; 0 where they are out of range
 abbrev pub headTotal : Head → ℕ
-headTotal h = rowTotal (rowOf (h .kind)) (h .group) (h .node)
+headTotal h = rowTotal (rowForKind (h .kind)) (h .group) (h .node)
 
 -- the head's numbers as the bytes have them; a byte that isn't there counts as 0
 unfoldable pub headIn : List ℕ → Head
 headIn xs =
-    let wide = rowOf (getD xs 0 0) .lengthBytes in
+    let wide = rowForKind (getD xs 0 0) .lengthBytes in
     record {
       group = groupOf (getD xs 1 0) (getD xs 2 0) (getD xs 3 0) (numberIn wide 5 xs);
       node = getD xs 4 0;
@@ -46,7 +46,7 @@ headIn xs =
 -- the test at each offset: a number against those before it, and L's bytes one by one; the batch may be any
 abbrev pub headTests : Head → List Bool
 headTests h =
-    let row = rowOf (h .kind) in
+    let row = rowForKind (h .kind) in
     isKind (h .kind)
     ∷ between 3 mostNodes (h .group .n)
     ∷ between 2 (row .mostK (h .group .n)) (h .group .k)

@@ -1,5 +1,6 @@
 // A head's bytes: read, tested, written. Every kind has them in the same order; how many L has, and which numbers can stand, its row in `kinds` tells.
 use crate::Head;
+use group::checks;
 use kinds::Limits;
 use records::numbers;
 use records::ranges;
@@ -8,9 +9,8 @@ ghost use mathlib.Core.Bool.{true};
 ghost use Prim.Native.Nat.{_+_, _^_, _≤_, _<_};
 ghost use lib.ListN.{length, getD};
 ghost use Rattle.letters.specs.Laid.{Laid};
-ghost use Rattle.group.specs.Ranges.{between};
 ghost use Rattle.records.specs.Steps.Ranges.{rangeTests};
-ghost use Rattle.kinds.specs.Kinds.{headSize, rowOf};
+ghost use Rattle.kinds.specs.Kinds.{headSize, rowForKind};
 ghost use Rattle.heads.specs.Steps.Partly.{HeadFits};
 ghost use Rattle.heads.specs.Heads.{headRecord, headIn, headTests, headTotal};
 
@@ -44,7 +44,7 @@ pub fn head_in(share: &[u8]) -> Head
 
 // The bytes of L in a head of this kind.
 pub fn length_bytes(kind: usize) -> usize
-    ensures { λ r. ⌜ (r ≡ rowOf kind .lengthBytes) × (r ≤ 4) ⌝ }
+    ensures { λ r. ⌜ (r ≡ rowForKind kind .lengthBytes) × (r ≤ 4) ⌝ }
 {
     let row = kinds::limits_of(kind, 0, 0);
     row.length_bytes
@@ -55,16 +55,6 @@ pub fn total(head: Head) -> usize
     ensures { λ r. ⌜ r ≡ headTotal head ⌝ }
 {
     kinds::total(head.kind, head.group, head.node)
-}
-
-// x is one of lo..hi.
-fn within(lo: usize, hi: usize, x: usize) -> bool
-    ensures { λ r. ⌜ r ≡ between lo hi x ⌝ }
-{
-    if lo <= x {
-        return x <= hi;
-    }
-    false
 }
 
 // The byte of L at this place can stand there; past L's bytes there is no test.
@@ -86,17 +76,17 @@ pub fn head_stands(head: Head, offset: usize) -> bool
     let row = kinds::limits_of(head.kind, g.n, g.k);
     match offset {
         0 => kinds::is_kind(head.kind),
-        1 => within(3, 16, g.n),
-        2 => within(2, row.most_k, g.k),
-        3 => within(row.least_d, row.most_d, g.d),
-        4 => within(1, g.n, head.node),
+        1 => checks::is_between(3, 16, g.n),
+        2 => checks::is_between(2, row.most_k, g.k),
+        3 => checks::is_between(row.least_d, row.most_d, g.d),
+        4 => checks::is_between(1, g.n, head.node),
         _ => length_stands(row, g.l, offset - LENGTH),
     }
 }
 
 // The byte at this place of L and the batch, which stand one after the other.
 fn later_byte(head: Head, nth: usize) -> u8
-    requires { ⌜ nth < rowOf (head .kind) .lengthBytes + 4 ⌝ }
+    requires { ⌜ nth < rowForKind (head .kind) .lengthBytes + 4 ⌝ }
     ensures { λ r. ⌜ r ≡ getD (headRecord head) (5 + nth) 0 ⌝ }
 {
     let wide = length_bytes(head.kind);

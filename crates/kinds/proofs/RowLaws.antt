@@ -17,11 +17,11 @@ use Rattle.preview_numbers.proofs.InRange.{preview-node-of, of-preview-node}
 use Rattle.preview_numbers.proofs.Sizes.{preview-packet-at-most, preview-packet-some}
 use Rattle.records.specs.Records.{blockSize, totalLimit}
 use Rattle.records.proofs.RangeBytes.{AnyBetween, from-one}
-use Rattle.kinds.specs.Kinds.{Row, repairing, previews, noKind, rowOf, isKind, InRow, rowTotal, headSize}
+use Rattle.kinds.specs.Kinds.{KindRow, repairing, previews, noKind, rowForKind, isKind, InRow, rowTotal, headSize}
 use Rattle.kinds.specs.Steps.Rows.{limitsIn, limitsAt}
 
 -- What is asked of a row.
-pub record RowLaws (row : Row) : Type 0 where
+pub record RowLaws (row : KindRow) : Type 0 where
   -- every number has some value that it can have, after those before it, and room for each in its bytes
   pub some-k : (n : ℕ) → 3 ≤ n → n ≤ 16 → (2 ≤ row .mostK n) × (row .mostK n < 256)
   pub some-d : (n k : ℕ) → 3 ≤ n → n ≤ 16 → 2 ≤ k → k ≤ row .mostK n → (row .leastD n k ≤ row .mostD n k) × (row .mostD n k < 256)
@@ -150,8 +150,8 @@ none-laws =
     }
 
 -- the table
-pub row-laws : (kind : ℕ) → RowLaws (rowOf kind)
-unfolding rowOf
+pub row-laws : (kind : ℕ) → RowLaws (rowForKind kind)
+unfolding rowForKind
 row-laws kind = by (eqb kind 1) (eqb kind 5)
   where
     by : (a b : Bool) → RowLaws (cond a repairing (cond b previews noKind))
@@ -160,8 +160,8 @@ row-laws kind = by (eqb kind 1) (eqb kind 5)
     by false false = none-laws
 
 -- what is a kind refuses nothing that is in its ranges, and what is none refuses everything
-pub kind-fine : (kind : ℕ) (g : Group) (i : ℕ) → isKind kind ≡ true → InRow (rowOf kind) g i → rowOf kind .refusal g i ≡ 0
-unfolding rowOf isKind
+pub kind-fine : (kind : ℕ) (g : Group) (i : ℕ) → isKind kind ≡ true → InRow (rowForKind kind) g i → rowForKind kind .refusal g i ≡ 0
+unfolding rowForKind isKind
 kind-fine kind g i = by (eqb kind 1) (eqb kind 5)
   where
     by :
@@ -171,8 +171,8 @@ kind-fine kind g i = by (eqb kind 1) (eqb kind 5)
     by false true e r = of-preview-node g i (previews-node g i r)
     by false false e r = let z : _≡_ {A = ℕ} 0 1 = cc in absurd (omega arith)
 
-pub fine-kind : (kind : ℕ) (g : Group) (i : ℕ) → rowOf kind .refusal g i ≡ 0 → isKind kind ≡ true
-unfolding rowOf isKind
+pub fine-kind : (kind : ℕ) (g : Group) (i : ℕ) → rowForKind kind .refusal g i ≡ 0 → isKind kind ≡ true
+unfolding rowForKind isKind
 fine-kind kind g i = by (eqb kind 1) (eqb kind 5)
   where
     by : (a b : Bool) → cond a repairing (cond b previews noKind) .refusal g i ≡ 0 → either a b ≡ true
@@ -182,20 +182,20 @@ fine-kind kind g i = by (eqb kind 1) (eqb kind 5)
 
 -- so T: the letters where nothing is refused, and else 0
 module _ (kind : ℕ) (g : Group) (i : ℕ) where
-  pub total-fine : rowOf kind .refusal g i ≡ 0 → rowTotal (rowOf kind) g i ≡ rowOf kind .letters g i
-  total-fine e = ap (λ q. ifFine q (rowOf kind .letters g i) 0) e
+  pub total-fine : rowForKind kind .refusal g i ≡ 0 → rowTotal (rowForKind kind) g i ≡ rowForKind kind .letters g i
+  total-fine e = ap (λ q. ifFine q (rowForKind kind .letters g i) 0) e
 
-  pub total-refused : (rowTotal (rowOf kind) g i ≡ 0 → ⊥) → rowOf kind .refusal g i ≡ 0
-  total-refused = by (rowOf kind .refusal g i)
+  pub total-refused : (rowTotal (rowForKind kind) g i ≡ 0 → ⊥) → rowForKind kind .refusal g i ≡ 0
+  total-refused = by (rowForKind kind .refusal g i)
     where
-      by : (q : ℕ) → (ifFine q (rowOf kind .letters g i) 0 ≡ 0 → ⊥) → q ≡ 0
+      by : (q : ℕ) → (ifFine q (rowForKind kind .letters g i) 0 ≡ 0 → ⊥) → q ≡ 0
       by zero some = refl
       by (suc q) some = absurd (some refl)
 
-  pub row-small : rowTotal (rowOf kind) g i < totalLimit
-  row-small = by (rowOf kind .refusal g i) refl
+  pub row-small : rowTotal (rowForKind kind) g i < totalLimit
+  row-small = by (rowForKind kind .refusal g i) refl
     where
-      by : (q : ℕ) → rowOf kind .refusal g i ≡ q → ifFine q (rowOf kind .letters g i) 0 < totalLimit
+      by : (q : ℕ) → rowForKind kind .refusal g i ≡ q → ifFine q (rowForKind kind .letters g i) 0 < totalLimit
       by zero e = row-laws kind .few-letters g i (row-laws kind .ranged g i e)
       by (suc q) e = omega arith
 
@@ -220,7 +220,7 @@ size-small kind = omega (arith, row-laws kind .few-bytes)
 
 -- what is no kind has the ranges of kind 1
 pub other-limits : (kind n k : ℕ) → (kind ≡ 5 → ⊥) → limitsIn repairing n k ≡ limitsAt kind n k
-unfolding rowOf
+unfolding rowForKind
 other-limits kind n k not = simp (ne-eqb kind 5 not) (by (eqb kind 1))
   where
     by : (a : Bool) → limitsIn repairing n k ≡ limitsIn (cond a repairing noKind) n k

@@ -11,7 +11,7 @@ use Rattle.lengths.specs.Lengths.{nodeLetters}
 use Rattle.preview_numbers.specs.Previews.{longestPreview, previewNodeRefusal, previewPacket}
 
 -- What a kind says. That n is 3 to 16, k at least 2 and the node one of 1..n is so in all of them.
-pub record Row : Type 0 where
+pub record KindRow : Type 0 where
   -- the most k, by n
   pub mostK : ℕ → ℕ
   -- the least and the most d, by n and k
@@ -26,7 +26,7 @@ pub record Row : Type 0 where
   pub letters : Group → ℕ → ℕ
 
 -- Kind 1, the packets of the repairing code: k <= d <= n-1, L of two bytes, T = d(L + t(i,d)).
-abbrev pub repairing : Row
+abbrev pub repairing : KindRow
 repairing =
     record {
       mostK = λ n. n - 1;
@@ -40,7 +40,7 @@ repairing =
     }
 
 -- Kind 5, a packet of previews: k <= n, d is 0, L of two bytes, T = L + t(i,k) by the previews' rule.
-abbrev pub previews : Row
+abbrev pub previews : KindRow
 previews =
     record {
       mostK = λ n. n;
@@ -54,7 +54,7 @@ previews =
     }
 
 -- a number that is no kind: no share has it, and it refuses everything
-abbrev pub noKind : Row
+abbrev pub noKind : KindRow
 noKind =
     record {
       mostK = λ n. n - 1;
@@ -68,15 +68,15 @@ noKind =
     }
 
 -- the table
-unfoldable pub rowOf : ℕ → Row
-rowOf kind = cond (eqb kind 1) repairing (cond (eqb kind 5) previews noKind)
+unfoldable pub rowForKind : ℕ → KindRow
+rowForKind kind = cond (eqb kind 1) repairing (cond (eqb kind 5) previews noKind)
 
 -- the kinds of head that there are
 unfoldable pub isKind : ℕ → Bool
 isKind kind = either (eqb kind 1) (eqb kind 5)
 
 -- The numbers of a head are in the ranges of a row.
-pub record InRow (row : Row) (g : Group) (i : ℕ) : Type 0 where
+pub record InRow (row : KindRow) (g : Group) (i : ℕ) : Type 0 where
   pub n-low : 3 ≤ g .n
   pub n-high : g .n ≤ mostNodes
   pub k-low : 2 ≤ g .k
@@ -89,9 +89,9 @@ pub record InRow (row : Row) (g : Group) (i : ℕ) : Type 0 where
   pub l-high : g .l ≤ row .mostL
 
 -- T by the numbers of a head of this row; 0 where they are refused
-abbrev pub rowTotal : Row → Group → ℕ → ℕ
+abbrev pub rowTotal : KindRow → Group → ℕ → ℕ
 rowTotal row g i = ifFine (row .refusal g i) (row .letters g i) 0
 
 -- the bytes of a head of this kind: the kind, n, k, d, node, L, and the batch
 unfoldable pub headSize : ℕ → ℕ
-headSize kind = 5 + rowOf kind .lengthBytes + 4
+headSize kind = 5 + rowForKind kind .lengthBytes + 4

@@ -9,7 +9,7 @@ use preview_numbers::checks as previews;
 ghost use mathlib.Core.Path.{_≡_};
 ghost use Prim.Native.Nat.{_-_};
 ghost use Rattle.group.specs.Answers.{checkNumber, valueOf};
-ghost use Rattle.kinds.specs.Kinds.{isKind, rowOf, rowTotal, headSize};
+ghost use Rattle.kinds.specs.Kinds.{isKind, rowForKind, rowTotal, headSize};
 ghost use Rattle.kinds.specs.Steps.Rows.{limitsAt};
 
 // A node's packets of the repairing code.
@@ -83,7 +83,7 @@ pub fn head_size(kind: usize) -> usize
 
 // A node with these numbers, by the ranges of its kind: refusals 1, 2 and 3.
 pub fn check(kind: usize, g: Group, node: usize) -> Check
-    ensures { λ r. ⌜ checkNumber r ≡ rowOf kind .refusal g node ⌝ }
+    ensures { λ r. ⌜ checkNumber r ≡ rowForKind kind .refusal g node ⌝ }
 {
     if kind == REPAIRING {
         return checks::node(g, node);
@@ -106,7 +106,7 @@ fn value_of(answer: Answer) -> usize
 
 // T, the letters of a share with these numbers; 0 where they are out of range, or where this is no kind.
 pub fn total(kind: usize, g: Group, node: usize) -> usize
-    ensures { λ r. ⌜ r ≡ rowTotal (rowOf kind) g node ⌝ }
+    ensures { λ r. ⌜ r ≡ rowTotal (rowForKind kind) g node ⌝ }
 {
     if kind == REPAIRING {
         return value_of(lengths::packet_letters(g, node));

@@ -6,7 +6,7 @@ use lib.ListN.{length}
 use Rattle.letters.specs.Algebra.{xors}
 use Rattle.group.specs.declared.Group.{Group}
 use Rattle.group.specs.declared.Answer.{Answer}
-use Rattle.group.specs.Answers.{unless, first, Solves}
+use Rattle.group.specs.Answers.{unless, first, SolvesInPlace}
 use Rattle.ids.specs.Ids.{idsRefusal}
 use Rattle.preview_numbers.specs.Previews.{previewGroupRefusal, previewFile}
 use Rattle.preview_product.specs.Preview.{previewReading, previewCount}
@@ -23,4 +23,4 @@ previewRecoverRefusal g ids buffer = first (previewReadersRefusal g ids) (unless
 -- reading what the buffer holds at exit gives what it held at entry, and the count is what that is worth; a refused call leaves it as it was
 abbrev pub PreviewRecovered : Group → List ℕ → List ℕ → List ℕ → Answer → Type 0
 PreviewRecovered g ids before after r =
-    Solves (previewRecoverRefusal g ids (length before)) (λ file. previewReading xors g file ids) (previewCount g ids) before after r
+    SolvesInPlace (previewRecoverRefusal g ids (length before)) (λ file. previewReading xors g file ids) (previewCount g ids) before after r

@@ -7,7 +7,7 @@ use lib.ListN.{length}
 use Rattle.letters.specs.Algebra.{xors}
 use Rattle.group.specs.declared.Group.{Group}
 use Rattle.group.specs.declared.Answer.{Answer}
-use Rattle.group.specs.Answers.{unless, first, Solves}
+use Rattle.group.specs.Answers.{unless, first, SolvesInPlace}
 use Rattle.group.specs.Ranges.{nodeRefusal}
 use Rattle.ids.specs.Ids.{among, idsRefusal}
 use Rattle.lengths.specs.Lengths.{repairBuffer}
@@ -31,4 +31,4 @@ repairRefusal g lost helpers buffer = first (helpersRefusal g lost helpers) (unl
 -- what the buffer holds at exit solves the d equations for what it held at entry, and the count is what that is worth; a refused call leaves it as it was
 abbrev pub Repaired : Group → ℕ → List ℕ → List ℕ → List ℕ → Answer → Type 0
 Repaired g lost helpers before after r =
-    Solves (repairRefusal g lost helpers (length before)) (equations xors g lost helpers) (repairCount g lost helpers) before after r
+    SolvesInPlace (repairRefusal g lost helpers (length before)) (equations xors g lost helpers) (repairCount g lost helpers) before after r

@@ -6,7 +6,7 @@ use lib.ListN.{length}
 use Rattle.letters.specs.Algebra.{xors}
 use Rattle.group.specs.declared.Group.{Group}
 use Rattle.group.specs.declared.Answer.{Answer}
-use Rattle.group.specs.Answers.{unless, first, Solves}
+use Rattle.group.specs.Answers.{unless, first, SolvesInPlace}
 use Rattle.group.specs.Ranges.{groupRefusal}
 use Rattle.ids.specs.Ids.{idsRefusal}
 use Rattle.lengths.specs.Lengths.{fileLetters}
@@ -25,4 +25,4 @@ recoverRefusal g ids buffer = first (readersRefusal g ids) (unless (eqb buffer (
 -- reading what the buffer holds at exit gives what it held at entry, and the count is what that is worth; a refused call leaves it as it was
 abbrev pub Recovered : Group → List ℕ → List ℕ → List ℕ → Answer → Type 0
 Recovered g ids before after r =
-    Solves (recoverRefusal g ids (length before)) (λ file. reading xors g file ids) (recoveryCount g ids) before after r
+    SolvesInPlace (recoverRefusal g ids (length before)) (λ file. reading xors g file ids) (recoveryCount g ids) before after r

@@ -12,7 +12,7 @@ use Rattle.letters.specs.Lanes.{Bytes}
 use Rattle.layout.specs.Share.{shareOf, ShareOf}
 use Rattle.layout.proofs.LaidOut.{share-length}
 use Rattle.heads.specs.declared.Head.{Head}
-use Rattle.kinds.specs.Kinds.{rowOf, headSize}
+use Rattle.kinds.specs.Kinds.{rowForKind, headSize}
 use Rattle.kinds.proofs.RowLaws.{kind-fine, total-fine}
 use Rattle.heads.specs.Heads.{heads}
 use Rattle.share.specs.Calls.{kindBytes, headLetters, headBytes, fitRefusal, writeRefusal, Written, Reads}
@@ -26,7 +26,7 @@ pub written :
     → Written h letters before r after → ShareOf heads h letters after
 unfolding writeRefusal fitRefusal
 written h letters before after r batch bytes e w =
-    let a = first-none (rowOf (h .kind) .refusal (h .group) (h .node)) (fitRefusal h (length letters) (length before)) e in
+    let a = first-none (rowForKind (h .kind) .refusal (h .group) (h .node)) (fitRefusal h (length letters) (length before)) e in
     record {
       allowed = fine-numbers h batch (a .0);
       count =

@@ -14,7 +14,7 @@ use Rattle.layout.specs.Share.{shareOf, ShareOf}
 use Rattle.layout.specs.Judgment.{IsBeginning}
 use Rattle.heads.specs.declared.Head.{Head}
 use Rattle.judging.specs.Judging.{Wrong}
-use Rattle.kinds.specs.Kinds.{rowOf, headSize}
+use Rattle.kinds.specs.Kinds.{rowForKind, headSize}
 use Rattle.heads.specs.Heads.{heads}
 
 -- What reading these bytes gives, and what the lent buffer then holds: 7 to 12 are decided before 6.
@@ -29,7 +29,7 @@ pub data Reads (xs before : List ℕ) : Outcome Head → List ℕ → Type 0 whe
 
 -- the bytes of node i's share of this kind: a head of its size, T letters in blocks, and the end
 unfoldable pub kindBytes : ℕ → Group → ℕ → ℕ
-kindBytes kind g i = sizeFor (headSize kind) (rowOf kind .letters g i)
+kindBytes kind g i = sizeFor (headSize kind) (rowForKind kind .letters g i)
 
 -- kind 1 holds a node's packets, and kind 5 its packet of previews
 abbrev pub shareBytes : Group → ℕ → ℕ
@@ -40,7 +40,7 @@ previewBytes = kindBytes 5
 
 -- the letters and the bytes of a share with this head
 abbrev pub headLetters : Head → ℕ
-headLetters h = rowOf (h .kind) .letters (h .group) (h .node)
+headLetters h = rowForKind (h .kind) .letters (h .group) (h .node)
 
 abbrev pub headBytes : Head → ℕ
 headBytes h = kindBytes (h .kind) (h .group) (h .node)
@@ -50,7 +50,7 @@ unfoldable pub fitRefusal : Head → ℕ → ℕ → ℕ
 fitRefusal h packets share = first (inputRefusal (headLetters h) packets) (outputRefusal (headBytes h) share)
 
 unfoldable pub writeRefusal : Head → ℕ → ℕ → ℕ
-writeRefusal h packets share = first (rowOf (h .kind) .refusal (h .group) (h .node)) (fitRefusal h packets share)
+writeRefusal h packets share = first (rowForKind (h .kind) .refusal (h .group) (h .node)) (fitRefusal h packets share)
 
 -- What writing answers, with this refusal number (0: none), and what the lent buffer then holds: the share, or what it held.
 pub record Writes (h : Head) (letters before : List ℕ) (refusal : ℕ) (r : Answer) (after : List ℕ) : Type 0 where

@@ -17,13 +17,13 @@ use records::sizes;
 ghost use Rattle.group.specs.Answers.{Answers};
 ghost use Rattle.group.specs.Ranges.{nodeRefusal};
 ghost use Rattle.preview_numbers.specs.Previews.{previewNodeRefusal};
-ghost use Rattle.kinds.specs.Kinds.{rowOf};
+ghost use Rattle.kinds.specs.Kinds.{rowForKind};
 ghost use Rattle.judging.specs.Judging.{outcomeOf};
 ghost use Rattle.share.specs.Calls.{Reads, Written, headFor, previewHead, kindBytes, shareBytes, previewBytes};
 
 // The bytes of a node's share of this kind. Refusals: 1, 2, 3, by the kind's ranges.
 fn bytes_of(kind: usize, g: Group, node: usize) -> Answer
-    ensures { λ r. ⌜ Answers r (rowOf kind .refusal g node) (kindBytes kind g node) ⌝ }
+    ensures { λ r. ⌜ Answers r (rowForKind kind .refusal g node) (kindBytes kind g node) ⌝ }
 {
     match kinds::check(kind, g, node) {
         Check::Refused(refusal) => Answer::Refused(refusal),

@@ -11,7 +11,7 @@ ghost use Prim.Native.Nat.{_<_};
 ghost use lib.ListN.{length};
 ghost use Rattle.records.specs.Records.{totalLimit, sizeFor};
 ghost use Rattle.layout.specs.Share.{shareOf};
-ghost use Rattle.kinds.specs.Kinds.{rowOf, headSize};
+ghost use Rattle.kinds.specs.Kinds.{rowForKind, headSize};
 ghost use Rattle.heads.specs.Steps.Partly.{HeadFits};
 ghost use Rattle.heads.specs.Heads.{heads};
 ghost use Rattle.share.specs.Calls.{Writes, fitRefusal};
@@ -30,7 +30,7 @@ fn fill(head: Head, packets: &[u8], share: &mut [u8])
 
 // Writes a share whose head's numbers are in range: refusals 5 and 6.
 pub fn fitting(head: Head, packets: &[u8], share: &mut [u8]) -> Answer
-    requires { ⌜ rowOf (head .kind) .refusal (head .group) (head .node) ≡ 0 ⌝ }
+    requires { ⌜ rowForKind (head .kind) .refusal (head .group) (head .node) ≡ 0 ⌝ }
     ensures { λ r. ⌜ Writes head (now (packets .entry)) (now (share .entry)) (fitRefusal head (length (now (packets .entry))) (length (now (share .entry)))) r (now (share .exit)) ⌝ }
 {
     let letters = head_bytes::total(head);

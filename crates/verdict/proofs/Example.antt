@@ -5,7 +5,7 @@ use Prim.Native.Nat.{ℕ}
 use Rattle.group.specs.Answers.{Outcome}
 use Rattle.shifts.specs.Rule.{t}
 use Rattle.lengths.specs.Lengths.{nodeLetters}
-use Rattle.kinds.specs.Kinds.{rowOf}
+use Rattle.kinds.specs.Kinds.{rowForKind}
 use Rattle.heads.specs.declared.Head.{Head}
 use Rattle.text.specs.Text.{places, decimal}
 use Rattle.verdict.specs.Line.{lineFor}
@@ -22,7 +22,7 @@ wanted =
     32 ∷ 50 ∷ 10 ∷ []
 
 pub ninth-line : lineFor (Outcome.fine ninth) ≡ wanted
-unfolding places decimal rowOf nodeLetters t
+unfolding places decimal rowForKind nodeLetters t
 ninth-line = refl
 
 -- "malformed 9 at 4" and the end of the line

@@ -5,7 +5,7 @@ use Prim.Native.Nat.{ℕ, _≤_, _<_}
 use lib.ListN.{length, drop}
 use Rattle.group.specs.declared.Group.{Group}
 use Rattle.group.specs.Answers.{Outcome}
-use Rattle.kinds.specs.Kinds.{rowOf}
+use Rattle.kinds.specs.Kinds.{rowForKind}
 use Rattle.heads.specs.declared.Head.{Head}
 use Rattle.heads.specs.Heads.{headTotal}
 use Rattle.judging.specs.Judging.{Judges}
@@ -80,7 +80,7 @@ lineWith letters (Outcome.refused n) = unfinishedLine
 lineWith letters (Outcome.wrong n q) = malformedLine n q
 
 abbrev pub lineFor : Outcome Head → List ℕ
-lineFor = lineWith (λ (h : Head). rowOf (h .kind) .letters (h .group) (h .node))
+lineFor = lineWith (λ (h : Head). rowForKind (h .kind) .letters (h .group) (h .node))
 
 -- the same for any judgment, those of no bytes too: a head whose numbers are out of range, which no share has, counts no letters
 abbrev pub judgmentLine : Outcome Head → List ℕ

@@ -5,7 +5,7 @@ use mathlib.Core.List.{List, _++_}
 use Prim.Native.Nat.{ℕ, _^_, _≤_, _<_}
 use lib.Dec.{ltb, eqb}
 use lib.ListN.{getD, take}
-use Rattle.kinds.specs.Kinds.{rowOf, headSize}
+use Rattle.kinds.specs.Kinds.{rowForKind, headSize}
 use Rattle.heads.specs.declared.Head.{Head}
 use Rattle.heads.specs.Heads.{headRecord, headIn, headTests}
 
@@ -16,7 +16,7 @@ pub record HeadFits (h : Head) : Type 0 where
   pub k : h .group .k < 256
   pub d : h .group .d < 256
   pub node : h .node < 256
-  pub l : h .group .l < 256 ^ rowOf (h .kind) .lengthBytes
+  pub l : h .group .l < 256 ^ rowForKind (h .kind) .lengthBytes
   pub batch : h .batch < 256 ^ 4
 
 -- the byte at an offset is as it is where so many bytes are in: it passes its test, or isn't in yet and is zero

@@ -3,7 +3,7 @@ use mathlib.Core.Path.{_≡_, ap}
 use Prim.Native.Nat.{ℕ, _≤_}
 use native.Mathlib.Omega.{arith}
 use Rattle.kinds.specs.declared.Limits.{Limits}
-use Rattle.kinds.specs.Kinds.{rowOf, headSize}
+use Rattle.kinds.specs.Kinds.{rowForKind, headSize}
 use Rattle.kinds.specs.Steps.Rows.{limitsAt}
 use Rattle.kinds.proofs.RowLaws.{row-laws}
 use borrow.Author.Needs.{needs}
@@ -11,7 +11,7 @@ use Rattle.kinds.proofs.head_size.Statement.{statement}
 use Rattle.kinds.proofs.head_size.Tie as tie
 
 -- the bytes of L that the row has
-bytes : (kind : ℕ) (r : Limits) → r ≡ limitsAt kind 0 0 → (r .«length_bytes» ≡ rowOf kind .lengthBytes) × (rowOf kind .lengthBytes ≤ 4)
+bytes : (kind : ℕ) (r : Limits) → r ≡ limitsAt kind 0 0 → (r .«length_bytes» ≡ rowForKind kind .lengthBytes) × (rowForKind kind .lengthBytes ≤ 4)
 bytes kind r e = (ap (λ (r : Limits). r .«length_bytes») e, row-laws kind .few-bytes)
 
 limits-of-requires : tie.Need-limits-of-requires

@@ -1,12 +1,12 @@
 -- `limits_of` meets its contract: previews have their own ranges, and all else has those of kind 1.
-use Rattle.kinds.specs.Kinds.{rowOf}
+use Rattle.kinds.specs.Kinds.{rowForKind}
 use Rattle.kinds.proofs.RowLaws.{other-limits}
 use borrow.Author.Needs.{needs}
 use Rattle.kinds.proofs.limits_of.Statement.{statement}
 use Rattle.kinds.proofs.limits_of.Tie as tie
 
 returns : tie.Need-returns
-unfolding rowOf
+unfolding rowForKind
 returns c = rw (c .if1 .taken)
 
 less-one-requires : tie.Need-less-one-requires

@@ -1,7 +1,7 @@
 -- `total` meets its contract: an answer's value is T where nothing is refused, and what is no kind has no letters.
 use mathlib.Core.Path.{_∙_}
 use borrow.Author.Tests.{ne-eqb}
-use Rattle.kinds.specs.Kinds.{rowOf}
+use Rattle.kinds.specs.Kinds.{rowForKind}
 use borrow.Author.Needs.{needs}
 use Rattle.kinds.proofs.total.Statement.{statement}
 use Rattle.kinds.proofs.total.Tie as tie
@@ -13,7 +13,7 @@ value-of-requires : tie.Need-value-of-requires
 value-of-requires c κs = search needs
 
 returns : tie.Need-returns
-unfolding rowOf
+unfolding rowForKind
 returns c = rw (c .before .before .if1 .taken) (c .value-of .ensures ∙ c .before .packet-letters .ensures .valued)
 
 packet-letters-requires-2 : tie.Need-packet-letters-requires-2
@@ -23,11 +23,11 @@ value-of-requires-2 : tie.Need-value-of-requires-2
 value-of-requires-2 c κs = search needs
 
 returns-2 : tie.Need-returns-2
-unfolding rowOf
+unfolding rowForKind
 returns-2 c = rw (c .before .before .if2 .taken) (c .value-of2 .ensures ∙ c .before .packet-letters2 .ensures .valued)
 
 returns-3 : tie.Need-returns-3
-unfolding rowOf
+unfolding rowForKind
 returns-3 c = simp (ne-eqb _ _ (c .before .if1 .left), ne-eqb _ _ (c .if2 .left))
 
 pub total-spec : {M : Type 1} → statement M

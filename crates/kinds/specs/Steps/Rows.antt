@@ -1,10 +1,10 @@
 -- A kind's row in numbers, as the code has it.
 use Prim.Native.Nat.{ℕ}
 use Rattle.kinds.specs.declared.Limits.{Limits}
-use Rattle.kinds.specs.Kinds.{Row, rowOf}
+use Rattle.kinds.specs.Kinds.{KindRow, rowForKind}
 
 -- the ranges that a row gives k, d and L, where n and k are these
-abbrev pub limitsIn : Row → ℕ → ℕ → Limits
+abbrev pub limitsIn : KindRow → ℕ → ℕ → Limits
 limitsIn row n k =
     record {
       «most_k» = row .mostK n;
@@ -16,4 +16,4 @@ limitsIn row n k =
     }
 
 abbrev pub limitsAt : ℕ → ℕ → ℕ → Limits
-limitsAt kind n k = limitsIn (rowOf kind) n k
+limitsAt kind n k = limitsIn (rowForKind kind) n k

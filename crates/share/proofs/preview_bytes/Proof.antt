@@ -1,5 +1,5 @@
 -- `share::preview_bytes` meets its contract: the row of kind 5 has these refusals.
-use Rattle.kinds.specs.Kinds.{rowOf}
+use Rattle.kinds.specs.Kinds.{rowForKind}
 use borrow.Author.Needs.{needs}
 use Rattle.share.proofs.preview_bytes.Statement.{statement}
 use Rattle.share.proofs.preview_bytes.Tie as tie
@@ -8,7 +8,7 @@ bytes-of-requires : tie.Need-bytes-of-requires
 bytes-of-requires c κs = search needs
 
 returns : tie.Need-returns
-unfolding rowOf
+unfolding rowForKind
 returns c = c .bytes-of .ensures
 
 pub preview-bytes-spec : {M : Type 1} → statement M

@@ -6,7 +6,7 @@ use lib.ListN.{getD}
 use Rattle.group.specs.declared.Group.{Group}
 use Rattle.group.specs.Ranges.{groupOf}
 use Rattle.records.specs.Records.{numberIn}
-use Rattle.kinds.specs.Kinds.{rowOf}
+use Rattle.kinds.specs.Kinds.{rowForKind}
 use Rattle.heads.specs.declared.Head.{Head}
 use Rattle.heads.specs.Heads.{headIn}
 use borrow.Author.Needs.{needs}
@@ -15,7 +15,7 @@ use Rattle.heads.proofs.bytes.head_in.Tie as tie
 
 -- the numbers of bytes that are those
 read :
-    (xs : List ℕ) (g : Group) (n k d l i batch kind w : ℕ) → kind ≡ getD xs 0 0 → w ≡ rowOf kind .lengthBytes → n ≡ getD xs 1 0 → k ≡ getD xs 2 0 → d ≡ getD xs 3 0
+    (xs : List ℕ) (g : Group) (n k d l i batch kind w : ℕ) → kind ≡ getD xs 0 0 → w ≡ rowForKind kind .lengthBytes → n ≡ getD xs 1 0 → k ≡ getD xs 2 0 → d ≡ getD xs 3 0
     → i ≡ getD xs 4 0 → l ≡ numberIn w 5 xs → batch ≡ numberIn 4 (5 + w) xs → g ≡ groupOf n k d l
     → record { group = g; node = i; batch = batch; kind = kind } ≡ headIn xs
 unfolding headIn

@@ -20,17 +20,17 @@ limits-of-requires c κs = search needs
 is-kind-requires : tie.Need-is-kind-requires
 is-kind-requires c κs = search needs
 
-within-requires : tie.Need-within-requires
-within-requires c κs = search needs
+is-between-requires : tie.Need-is-between-requires
+is-between-requires c κs = search needs
 
-within-requires-2 : tie.Need-within-requires-2
-within-requires-2 c κs = search needs
+is-between-requires-2 : tie.Need-is-between-requires-2
+is-between-requires-2 c κs = search needs
 
-within-requires-3 : tie.Need-within-requires-3
-within-requires-3 c κs = search needs
+is-between-requires-3 : tie.Need-is-between-requires-3
+is-between-requires-3 c κs = search needs
 
-within-requires-4 : tie.Need-within-requires-4
-within-requires-4 c κs = search needs
+is-between-requires-4 : tie.Need-is-between-requires-4
+is-between-requires-4 c κs = search needs
 
 sub-length-stands : tie.Need-sub-length-stands
 sub-length-stands c = search needs
@@ -42,16 +42,16 @@ returns : tie.Need-returns
 returns c = rw (c .before .match .keys1) (c .is-kind .ensures)
 
 returns-2 : tie.Need-returns-2
-returns-2 c = rw (c .before .match .keys2) (c .within .ensures)
+returns-2 c = rw (c .before .match .keys2) (c .is-between .ensures)
 
 returns-3 : tie.Need-returns-3
-returns-3 c = rw (c .before .match .keys3) (c .within2 .ensures ∙ ap (λ (r : Limits). between 2 (r .«most_k») (c .before .before .before .before .args .head .group .k)) (c .before .before .limits-of .ensures))
+returns-3 c = rw (c .before .match .keys3) (c .is-between2 .ensures ∙ ap (λ (r : Limits). between 2 (r .«most_k») (c .before .before .before .before .args .head .group .k)) (c .before .before .limits-of .ensures))
 
 returns-4 : tie.Need-returns-4
-returns-4 c = rw (c .before .match .keys4) (c .within3 .ensures ∙ ap (λ (r : Limits). between (r .«least_d») (r .«most_d») (c .before .before .before .before .args .head .group .d)) (c .before .before .limits-of .ensures))
+returns-4 c = rw (c .before .match .keys4) (c .is-between3 .ensures ∙ ap (λ (r : Limits). between (r .«least_d») (r .«most_d») (c .before .before .before .before .args .head .group .d)) (c .before .before .limits-of .ensures))
 
 returns-5 : tie.Need-returns-5
-returns-5 c = rw (c .before .match .keys5) (c .within4 .ensures)
+returns-5 c = rw (c .before .match .keys5) (c .is-between4 .ensures)
 
 returns-6 : tie.Need-returns-6
 returns-6 c =
@@ -68,10 +68,10 @@ head-stands-spec =
     (tie.spec
     limits-of-requires
     is-kind-requires
-    within-requires
-    within-requires-2
-    within-requires-3
-    within-requires-4
+    is-between-requires
+    is-between-requires-2
+    is-between-requires-3
+    is-between-requires-4
     sub-length-stands
     length-stands-requires
     returns

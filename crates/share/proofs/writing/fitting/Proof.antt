@@ -6,7 +6,7 @@ use Rattle.group.specs.Answers.{first}
 use Rattle.group.specs.Ranges.{inputRefusal, outputRefusal}
 use Rattle.group.proofs.Refusals.{exact-lengths, stopped, fine}
 use Rattle.records.specs.Records.{sizeFor}
-use Rattle.kinds.specs.Kinds.{rowOf, headSize}
+use Rattle.kinds.specs.Kinds.{rowForKind, headSize}
 use Rattle.kinds.proofs.RowLaws.{row-laws, size-small, total-fine}
 use Rattle.heads.specs.declared.Head.{Head}
 use Rattle.heads.specs.Heads.{headTotal}
@@ -19,18 +19,18 @@ use Rattle.share.proofs.writing.fitting.Statement.{statement}
 use Rattle.share.proofs.writing.fitting.Tie as tie
 
 -- the share's letters and its bytes, by a head in range
-letters-of : (h : Head) (letters : ℕ) → rowOf (h .kind) .refusal (h .group) (h .node) ≡ 0 → letters ≡ headTotal h → letters ≡ headLetters h
+letters-of : (h : Head) (letters : ℕ) → rowForKind (h .kind) .refusal (h .group) (h .node) ≡ 0 → letters ≡ headTotal h → letters ≡ headLetters h
 letters-of h letters none el = el ∙ total-fine (h .kind) (h .group) (h .node) none
 
 bytes :
-    (h : Head) (letters front size : ℕ) → rowOf (h .kind) .refusal (h .group) (h .node) ≡ 0 → letters ≡ headTotal h → front ≡ headSize (h .kind)
+    (h : Head) (letters front size : ℕ) → rowForKind (h .kind) .refusal (h .group) (h .node) ≡ 0 → letters ≡ headTotal h → front ≡ headSize (h .kind)
     → size ≡ sizeFor front letters → size ≡ headBytes h
 unfolding kindBytes
 bytes h letters front size none el ef es = es ∙ ap₂ sizeFor ef (letters-of h letters none el)
 
 -- the check's number, by what the lengths are
 checked :
-    (h : Head) (k letters front size packets share : ℕ) → rowOf (h .kind) .refusal (h .group) (h .node) ≡ 0 → letters ≡ headTotal h → front ≡ headSize (h .kind)
+    (h : Head) (k letters front size packets share : ℕ) → rowForKind (h .kind) .refusal (h .group) (h .node) ≡ 0 → letters ≡ headTotal h → front ≡ headSize (h .kind)
     → size ≡ sizeFor front letters → k ≡ first (inputRefusal letters packets) (outputRefusal size share) → k ≡ fitRefusal h packets share
 unfolding fitRefusal
 checked h k letters front size packets share none el ef es e =
