@@ -10,7 +10,7 @@ PROGRAMS = {"judge", "watch", "tour"}
 TESTS = {"examples", "desk", "marks", "calls", "disks", "rescue", "lines", "script_line", "script", "store_runs", "share_runs", "verdict_runs",
          "judged_words", "arriving_words", "arriving_runs", "preview_calls", "preview_runs"}
 WIDTH, HEIGHT, GAP, RISE, LANE = 92, 28, 16, 70, 14
-LONGEST = 13  # letters of a name that fit into a box as they are
+LONGEST = 12  # letters of a name that fit into a box as they are; longer ones are written smaller
 
 
 def crates():
@@ -106,7 +106,7 @@ def ordered(rows, ways):
 
 def box(name, x, y, fill):
     print(f'<rect x="{x - WIDTH / 2:.0f}" y="{y:.0f}" width="{WIDTH}" height="{HEIGHT}" rx="5" fill="{fill}" stroke="#777"/>')
-    squeezed = f' textLength="{WIDTH - 8}" lengthAdjust="spacingAndGlyphs"' if len(name) > LONGEST else ""
+    squeezed = f' font-size="{13 * LONGEST / len(name):.1f}"' if len(name) > LONGEST else ""
     print(f'<text x="{x:.0f}" y="{y + 19:.0f}" text-anchor="middle"{squeezed}>{name}</text>')
 
 
