@@ -231,7 +231,8 @@ impl Arriving {
             return Coming::Refused(Refusal::Unfinished);
         }
         let head = self.head_so_far();
-        let bytes = sizes::size_for(kinds::head_size(head.kind), head_bytes::total(head));
+        let front = kinds::head_size(head.kind);
+        let bytes = sizes::size_for(front, head_bytes::total(head));
         Coming::Share(head, bytes)
     }
 }
