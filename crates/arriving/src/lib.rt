@@ -125,13 +125,12 @@ impl Arriving {
     pub fn after(self, bytes: &[u8]) -> Arriving
         ensures { λ r. ⌜ Takes self (now (bytes .entry)) r ⌝ }
     {
-        if 0 < self.wrong {
-            return self.in_head(bytes);
+        if self.wrong == 0 {
+            if kinds::head_size(self.kind) <= self.at {
+                return self.past_head(bytes);
+            }
         }
-        if self.at < kinds::head_size(self.kind) {
-            return self.in_head(bytes);
-        }
-        self.past_head(bytes)
+        self.in_head(bytes)
     }
 
     // The same where the head is in, if bytes lead here: then it changes no more.

@@ -1,4 +1,5 @@
-// Previews: lengths, packets, pieces and recovery. A group of previews has no d, so its d is 0.
+// Previews: lengths, packets, pieces, recovery, and writing a share. A group of previews has no d, so its d is 0.
+// (Writing stands here and not beside the base's: an archive of one call that writes has it laid in, with its kind as a constant.)
 ghost use Prim.Native.Nat.{_-_, _*_};
 ghost use lib.ListN.{length};
 ghost use Rattle.letters.specs.Algebra.{xors};
@@ -8,6 +9,9 @@ ghost use Rattle.preview_numbers.specs.Previews.{previewGroupRefusal, previewNo
 ghost use Rattle.preview_product.specs.Preview.{previewLetters};
 ghost use Rattle.preview_packets.specs.Calls.{previewEncodeRefusal};
 ghost use Rattle.preview_pieces.specs.Calls.{previewPieceRefusal, previewEntryRefusal};
+ghost use Rattle.layout.specs.Share.{shareOf};
+ghost use Rattle.heads.specs.Heads.{heads};
+ghost use Rattle.share.specs.Calls.{writeRefusal, previewHead};
 ghost use Rattle.c_answers.specs.Exports.{Tells, Fills};
 ghost use Rattle.c_preview.specs.Previews.{PreviewRecovers};
 
@@ -106,4 +110,21 @@ pub extern "C" fn dulvaspen_preview_recover(
         preview::recovery::recover(group::of(n, k, 0, l), ids, buffer),
         count,
     )
+}
+
+// A node's packet of previews as a share. Refusals: 1, 2, 3, 5 for the packet, 6 for the share.
+#[no_mangle]
+pub extern "C" fn dulvaspen_preview_write_share(
+    n: usize,
+    k: usize,
+    l: usize,
+    node: usize,
+    batch: u32,
+    packet: &[u8],
+    share: &mut [u8],
+) -> usize
+    ensures { λ r. ⌜ Fills (writeRefusal (previewHead (groupOf n k 0 l) node batch) (length (now (packet .entry))) (length (now (share .entry)))) (shareOf heads (previewHead (groupOf n k 0 l) node batch) (now (packet .entry))) (now (share .entry)) (now (share .exit)) r ⌝ }
+{
+    let g = group::of(n, k, 0, l);
+    group::answer_number(share::write_preview(g, node, batch, packet, share))
 }

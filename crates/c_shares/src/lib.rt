@@ -3,7 +3,7 @@ use heads::Head;
 use share::Judgment;
 ghost use mathlib.Core.Path.{_≡_};
 ghost use lib.ListN.{length};
-ghost use Rattle.share.specs.Calls.{writeRefusal, headFor, previewHead};
+ghost use Rattle.share.specs.Calls.{writeRefusal, headFor};
 ghost use Rattle.heads.specs.Heads.{heads};
 ghost use Rattle.layout.specs.Share.{shareOf};
 ghost use Rattle.group.specs.Ranges.{groupOf};
@@ -27,23 +27,6 @@ pub extern "C" fn dulvaspen_write_share(
 {
     let g = group::of(n, k, d, l);
     group::answer_number(share::write(g, node, batch, packets, share))
-}
-
-// A node's packet of previews as a share. Refusals: 1, 2, 3, 5 for the packet, 6 for the share.
-#[no_mangle]
-pub extern "C" fn dulvaspen_preview_write_share(
-    n: usize,
-    k: usize,
-    l: usize,
-    node: usize,
-    batch: u32,
-    packet: &[u8],
-    share: &mut [u8],
-) -> usize
-    ensures { λ r. ⌜ Fills (writeRefusal (previewHead (groupOf n k 0 l) node batch) (length (now (packet .entry))) (length (now (share .entry)))) (shareOf heads (previewHead (groupOf n k 0 l) node batch) (now (packet .entry))) (now (share .entry)) (now (share .exit)) r ⌝ }
-{
-    let g = group::of(n, k, 0, l);
-    group::answer_number(share::write_preview(g, node, batch, packet, share))
 }
 
 // Puts a head's seven numbers.

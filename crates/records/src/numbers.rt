@@ -37,17 +37,17 @@ pub fn number_in(share: &[u8], start: usize, size: usize) -> usize
     x
 }
 
-// A byte of a number, from the least one on, of as many as it has room in.
+// A byte of a number, from the least one on, of as many as it has room in: one of the first four.
 pub fn byte_of(x: usize, nth: usize) -> u8
+    requires { ⌜ nth < 4 ⌝ }
     ensures { λ r. ⌜ ((size : ℕ) → nth < size → r ≡ getD (number size x) nth 0) ⌝ }
 {
-    let mut rest = x;
-    let mut i = 0;
-    while i < nth {
-        rest = rest / 256;
-        i += 1;
+    match nth {
+        0 => low(x),
+        1 => low(x / 256),
+        2 => low(x / 256 / 256),
+        _ => low(x / 256 / 256 / 256),
     }
-    low(rest)
 }
 
 // A number has room in so many bytes.

@@ -24,7 +24,7 @@ length-bytes-requires : tie.Need-length-bytes-requires
 length-bytes-requires c κs = search needs
 
 byte-of-requires : tie.Need-byte-of-requires
-byte-of-requires c κs = search needs
+byte-of-requires c κs = omega (arith, c .before .length-bytes .ensures .1, c .if1 .taken)
 
 returns : tie.Need-returns
 returns c = let a = c .before .before .before .args in
@@ -36,7 +36,9 @@ cast-byte-of : tie.Need-cast-byte-of
 cast-byte-of c = search needs
 
 byte-of-requires-2 : tie.Need-byte-of-requires-2
-byte-of-requires-2 c κs = search needs
+byte-of-requires-2 c κs =
+    let s = c .before .before .before in
+    omega (arith, s .pre, c .before .before .length-bytes .ensures .0, c .before .if1 .left)
 
 returns-2 : tie.Need-returns-2
 returns-2 c = let s = c .before .before .before .before in

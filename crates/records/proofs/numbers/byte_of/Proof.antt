@@ -1,6 +1,6 @@
--- `numbers::byte_of` meets its contract: each turn leaves one low byte out.
-use mathlib.Core.Path.{_≡_, sym, ap₂, _∙_}
-use Prim.Native.Nat.{ℕ, _+_, _-_, _/_, _≤_, _<_}
+-- `numbers::byte_of` meets its contract: each byte that is passed over leaves a 256th.
+use mathlib.Core.Path.{_≡_, sym, _∙_}
+use Prim.Native.Nat.{ℕ, _-_, _/_, _%_, _<_}
 use native.Mathlib.Omega.{arith}
 use lib.ListN.{getD}
 use borrow.Author.Needs.{needs}
@@ -9,46 +9,53 @@ use Rattle.records.proofs.NumberBytes.{lowest-byte, later-bytes}
 use Rattle.records.proofs.numbers.byte_of.Statement.{statement}
 use Rattle.records.proofs.numbers.byte_of.Tie as tie
 
-abbrev Inv-loop : tie.InvT-loop
-Inv-loop x nth rest₀ i₀ rest i = (i ≤ nth) × ((size : ℕ) → nth < size → getD (number size x) nth 0 ≡ getD (number (size - i) rest) (nth - i) 0)
+-- the second byte, the third and the fourth: a 256th of the number has each as the byte before
+second : (s x q : ℕ) → q < s → q ≡ 1 → getD (number s x) q 0 ≡ x / 256 % 256
+second s x q h e = later-bytes s x q (omega arith) (omega arith) ∙ lowest-byte (s - 1) (x / 256) (q - 1) (omega arith) (omega arith)
 
-abbrev μ-loop : tie.MeasureT-loop
-μ-loop x nth rest₀ i₀ rest i = nth - i
+third : (s x q : ℕ) → q < s → q ≡ 2 → getD (number s x) q 0 ≡ x / 256 / 256 % 256
+third s x q h e = later-bytes s x q (omega arith) (omega arith) ∙ second (s - 1) (x / 256) (q - 1) (omega arith) (omega arith)
 
-next :
-    (size nth i rest : ℕ) → nth < size → i < nth
-    → getD (number (size - i) rest) (nth - i) 0 ≡ getD (number (size - (i + 1)) (rest / 256)) (nth - (i + 1)) 0
-next size nth i rest h l =
-    let s : size - i - 1 ≡ size - (i + 1) = omega arith in
-    let n : nth - i - 1 ≡ nth - (i + 1) = omega arith in
-    later-bytes (size - i) rest (nth - i) (omega arith) (omega arith) ∙ ap₂ (λ m q. getD (number m (rest / 256)) q 0) s n
+fourth : (s x q : ℕ) → q < s → q ≡ 3 → getD (number s x) q 0 ≡ x / 256 / 256 / 256 % 256
+fourth s x q h e = later-bytes s x q (omega arith) (omega arith) ∙ third (s - 1) (x / 256) (q - 1) (omega arith) (omega arith)
 
-loop-holds : tie.Need-loop-holds Inv-loop μ-loop
-loop-holds c =
-    let a = c .args in
-    (omega arith, λ size l. let s : size - 0 ≡ size = omega arith in let n : a .nth - 0 ≡ a .nth = omega arith in rw (s, n))
-
-add-i : tie.Need-add-i Inv-loop μ-loop
-add-i c = omega arith
-
-loop-less : tie.Need-loop-less Inv-loop μ-loop
-loop-less c = omega arith
-
-loop-again : tie.Need-loop-again Inv-loop μ-loop
-loop-again c =
-    let l = c .before in
-    (omega arith, λ size h. l .loop .inv .1 size h ∙ next size (l .before .args .nth) (l .loop .i) (l .loop .rest) h (omega arith))
-
-low-requires : tie.Need-low-requires Inv-loop μ-loop
+low-requires : tie.Need-low-requires
 low-requires c κs = search needs
 
-returns : tie.Need-returns Inv-loop μ-loop
-returns c =
-    let l = c .before .before in
-    λ size h.
-    c .low .ensures
-    ∙ sym (l .loop .inv .1 size h ∙ lowest-byte (size - l .loop .i) (l .loop .rest) (l .before .args .nth - l .loop .i) (omega arith) (omega arith))
+low-requires-2 : tie.Need-low-requires-2
+low-requires-2 c κs = search needs
+
+low-requires-3 : tie.Need-low-requires-3
+low-requires-3 c κs = search needs
+
+low-requires-4 : tie.Need-low-requires-4
+low-requires-4 c κs = search needs
+
+returns : tie.Need-returns
+returns c = λ size h. c .low .ensures ∙ sym (lowest-byte size _ _ (omega arith) (c .before .match .keys1))
+
+returns-2 : tie.Need-returns-2
+returns-2 c = λ size h. c .low2 .ensures ∙ sym (second size _ _ h (c .before .match .keys2))
+
+returns-3 : tie.Need-returns-3
+returns-3 c = λ size h. c .low3 .ensures ∙ sym (third size _ _ h (c .before .match .keys3))
+
+returns-4 : tie.Need-returns-4
+returns-4 c =
+    let r = c .before .match .rest in
+    let s = c .before .before in
+    let last : s .args .nth ≡ 3 = omega (arith, r .0 .0 .1, r .0 .1, r .1, s .pre) in
+    λ size h. c .low4 .ensures ∙ sym (fourth size _ _ h last)
 
 pub byte-of-spec : {M : Type 1} → statement M
 byte-of-spec =
-    tie.close (tie.spec Inv-loop μ-loop loop-holds add-i loop-less loop-again low-requires returns)
+    tie.close
+    (tie.spec
+    low-requires
+    low-requires-2
+    low-requires-3
+    low-requires-4
+    returns
+    returns-2
+    returns-3
+    returns-4)

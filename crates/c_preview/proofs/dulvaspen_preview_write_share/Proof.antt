@@ -1,8 +1,8 @@
 -- `dulvaspen_preview_write_share` meets its contract: it returns the number of the call behind it, which fills the buffer.
 use Rattle.c_shares.proofs.Told.{wrote-of}
 use borrow.Author.Needs.{needs}
-use Rattle.c_shares.proofs.dulvaspen_preview_write_share.Statement.{statement}
-use Rattle.c_shares.proofs.dulvaspen_preview_write_share.Tie as tie
+use Rattle.c_preview.proofs.dulvaspen_preview_write_share.Statement.{statement}
+use Rattle.c_preview.proofs.dulvaspen_preview_write_share.Tie as tie
 
 of-requires : tie.Need-of-requires
 of-requires c κs = search needs
