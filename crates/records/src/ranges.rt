@@ -28,6 +28,10 @@ fn low_stands(least: usize, most: usize, byte: usize) -> bool
     requires { ⌜ (least ≤ 2 ^ 32) × (byte < 256) ⌝ }
     ensures { λ r. ⌜ r ≡ lowStands least most byte ⌝ }
 {
+    // Of 256 numbers in a row each lowest byte is one's.
+    if least + 255 <= most {
+        return true;
+    }
     if most < byte {
         return false;
     }
