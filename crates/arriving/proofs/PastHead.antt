@@ -1,27 +1,22 @@
--- Taking bytes where the head is in: it changes no more, and where its numbers are no share's, no bytes lead there.
+-- Taking bytes where the head is in: it changes no more. Those that are stepped over change but how many stand.
 use mathlib.Core.Path.{_≡_, refl, sym, ap, subst, _∙_}
 use mathlib.Core.List.{List}
-use Prim.Native.Nat.{ℕ, _+_, _-_, _≤_, _<_}
+use Prim.Native.Nat.{ℕ, _+_, _-_, _^_, _<_}
 use native.Mathlib.Omega.{arith}
 use lib.ListN.{length, take, drop}
 use Rattle.heads.specs.declared.Head.{Head}
-use Rattle.kinds.specs.Kinds.{headSize}
 use Rattle.heads.specs.Heads.{heads}
 use Rattle.heads.specs.Steps.Partly.{headAfter}
 use Rattle.judging.specs.Steps.Search.{StopsFrom}
 use Rattle.arriving.specs.declared.Arriving.{Arriving}
 use Rattle.arriving.specs.States.{numberAt, stateWith, headSoFar, Leads}
 use Rattle.arriving.specs.Calls.{Takes}
-use Rattle.arriving.specs.Steps.Reaching.{Within, Stepped, HeadAt, PastHead}
+use Rattle.arriving.specs.Steps.Reaching.{Within, Stepped, HeadAt, PastHead, StepsOver}
 use Rattle.arriving.proofs.BytesBehind.{whole-grown}
-use Rattle.arriving.proofs.Led.{numbers-led, leads-right}
+use Rattle.arriving.proofs.Led.{leads-right}
 use Rattle.arriving.proofs.Stepping.{all-stepped, goes-on}
-use Rattle.arriving.proofs.Near.{within-numbers, numbers-within}
-use Rattle.arriving.proofs.Taking.{takes-all, takes-some}
-
--- where bytes lead there, the share has so many letters and bytes
-pub led-within : (s : Arriving) (T : ℕ) → headSize (s .kind) ≤ s .at → T ≡ heads .total (headSoFar s) → Leads s → Within (s .kind) T (s .at)
-led-within s T long total led = subst (λ n. Within (s .kind) n (s .at)) (sym total) (numbers-within (headSoFar s) (s .at) long (numbers-led s led))
+use Rattle.arriving.proofs.Near.{within-numbers}
+use Rattle.arriving.proofs.Taking.{takes-none, takes-all, takes-some}
 
 module _ (s : Arriving) (T : ℕ) (w : PastHead s T) where
   numbers : HeadAt (headSoFar s) (s .at)
@@ -58,3 +53,22 @@ module _ (s : Arriving) (T : ℕ) (w : PastHead s T) where
     pub searched-some : (n + q ≡ length ys → ⊥) → (r : Arriving) → r ≡ stateWith (s .at + (n + q)) (numberAt (h .kind) (heads .total h) (s .at + (n + q))) h → Takes s ys r
     searched-some more r is =
         subst (Takes s ys) (sym (is ∙ ap (λ (h : Head). stateWith (s .at + (n + q)) (numberAt (h .kind) (heads .total h) (s .at + (n + q))) h) e)) (past-some ys (n + q) all-stops (omega (arith, all-stops .within, more)))
+
+-- where some bytes are stepped over, the head is in
+pub some-steps :
+    (s : Arriving) (ys : List ℕ) (q : ℕ) → StepsOver s ys q → (q ≡ 0 → ⊥) → (T : ℕ) → T ≡ heads .total (headSoFar s)
+    → PastHead s T × Stepped (s .kind) (s .at) T ys q
+some-steps s ys _ StepsOver.none n T e = absurd (n refl)
+some-steps s ys q (StepsOver.some U _ w st) n T e = subst (λ t. PastHead s t × Stepped (s .kind) (s .at) t ys q) (w .total ∙ sym e) (w, st)
+
+-- and their number has room
+pub steps-near : (s : Arriving) (ys : List ℕ) (q : ℕ) → StepsOver s ys q → s .at < 2 ^ 64 → s .at + q < 2 ^ 64
+steps-near s ys _ StepsOver.none h = omega arith
+steps-near s ys q (StepsOver.some T _ w st) h = omega (arith, st .near)
+
+-- and where all of them are, only how many stand changes
+pub all-steps : (s : Arriving) (ys : List ℕ) (q : ℕ) → StepsOver s ys q → q ≡ length ys → Takes s ys (stateWith (s .at + q) (s .wrong) (headSoFar s))
+all-steps s ys _ StepsOver.none all =
+    let same : s .at + 0 ≡ s .at = omega arith in
+    rw same (takes-none s ys (sym all))
+all-steps s ys q (StepsOver.some T _ w st) all = past-stepped s T w ys q st all

@@ -1,6 +1,6 @@
 -- What taking leaves: in the state of some bytes, that of these and the others after them.
 use mathlib.Core.Path.{_≡_, refl, sym, ap, _∙_}
-use mathlib.Core.List.{List, _++_}
+use mathlib.Core.List.{List, [], _∷_, _++_, append-nil}
 use Prim.Native.Nat.{ℕ, _+_, _<_}
 use native.Mathlib.Omega.{arith}
 use lib.ListN.{length, take, length-append}
@@ -20,6 +20,11 @@ use Rattle.arriving.proofs.Led.{all-stand, one-wrong, led-right, led-wr
 -- a state to which no bytes lead stays as it is
 pub forged-stays : (s : Arriving) (ys : List ℕ) → (Leads s → ⊥) → Takes s ys s
 forged-stays s ys none = record { led = λ xs bytes e. absurd (none (xs, bytes, e)); forged = λ n. refl }
+
+-- no bytes change nothing
+pub takes-none : (s : Arriving) (ys : List ℕ) → length ys ≡ 0 → Takes s ys s
+takes-none s [] e = record { led = λ xs bytes f. ap stateOf (append-nil xs) ∙ f; forged = λ n. refl }
+takes-none s (y ∷ ys) e = absurd (omega arith)
 
 -- after a wrong byte nothing is counted on
 pub wrong-stays : (s : Arriving) (ys : List ℕ) → Leads s → (s .wrong ≡ 0 → ⊥) → Takes s ys s

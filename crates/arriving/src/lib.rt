@@ -17,7 +17,7 @@ ghost use Rattle.kinds.specs.Kinds.{headSize};
 ghost use Rattle.heads.specs.Heads.{heads};
 ghost use Rattle.judging.specs.Judging.{outcomeOf};
 ghost use Rattle.arriving.specs.States.{numberAt, headSoFar, stateWith, stateOf, Leads};
-ghost use Rattle.arriving.specs.Steps.Reaching.{Stepped, PastHead};
+ghost use Rattle.arriving.specs.Steps.Reaching.{StepsOver, Stepped, PastHead};
 ghost use Rattle.arriving.specs.Calls.{Takes, JudgesState, GoodBytesOf, Announces, comingOf};
 
 // The last batch number.
@@ -121,41 +121,53 @@ impl Arriving {
         reaching::led(head, head_bytes::total(head), self.at, self.wrong)
     }
 
+    // How many of these bytes are stepped over: letters, and full blocks with their kind, after bytes that lead here and have their head in. In any
+    // other state none are.
+    pub fn stepped_over(self, bytes: &[u8]) -> usize
+        ensures { λ r. ⌜ StepsOver self (now (bytes .entry)) r ⌝ }
+    {
+        if self.wrong != 0 {
+            return 0;
+        }
+        if self.at < kinds::head_size(self.kind) {
+            return 0;
+        }
+        if LAST_BATCH < self.batch {
+            return 0;
+        }
+        let letters = head_bytes::total(self.head_so_far());
+        if !reaching::within(self.kind, letters, self.at) {
+            return 0;
+        }
+        reaching::stepped(bytes, self.at, self.kind, letters)
+    }
+
     // The state after these bytes. One to which no bytes lead stays as it is.
     pub fn after(self, bytes: &[u8]) -> Arriving
         ensures { λ r. ⌜ Takes self (now (bytes .entry)) r ⌝ }
     {
-        if self.wrong == 0 {
-            if kinds::head_size(self.kind) <= self.at {
-                return self.past_head(bytes);
-            }
-        }
-        self.in_head(bytes)
-    }
-
-    // The same where the head is in, if bytes lead here: then it changes no more.
-    fn past_head(self, bytes: &[u8]) -> Arriving
-        requires { ⌜ (self .wrong ≡ 0) × (headSize (self .kind) ≤ self .at) ⌝ }
-        ensures { λ r. ⌜ Takes self (now (bytes .entry)) r ⌝ }
-    {
-        if LAST_BATCH < self.batch {
-            return self;
-        }
-        let at = self.at;
-        let letters = head_bytes::total(self.head_so_far());
-        if !reaching::within(self.kind, letters, at) {
-            return self;
-        }
-        let start = reaching::stepped(bytes, at, self.kind, letters);
+        let start = self.stepped_over(bytes);
         if start == bytes.len() {
             let mut next = self;
-            next.at = at + start;
+            next.at = self.at + start;
             return next;
         }
+        self.after_steps(bytes, start)
+    }
+
+    // The same where the first `start` bytes are stepped over.
+    pub fn after_steps(self, bytes: &[u8], start: usize) -> Arriving
+        requires { ⌜ StepsOver self (now bytes) start ⌝ }
+        ensures { λ r. ⌜ Takes self (now (bytes .entry)) r ⌝ }
+    {
+        if start == 0 {
+            return self.in_head(bytes);
+        }
+        let letters = head_bytes::total(self.head_so_far());
         self.searched(bytes, start, letters)
     }
 
-    // The same where the first `start` bytes are stepped over: the search tells how far the others stand.
+    // The same where some are: the search tells how far the others stand.
     fn searched(self, bytes: &[u8], start: usize, letters: usize) -> Arriving
         requires { ⌜ PastHead self letters × Stepped (self .kind) (self .at) letters (now bytes) start ⌝ }
         ensures { λ r. ⌜ Takes self (now (bytes .entry)) r ⌝ }
@@ -170,7 +182,7 @@ impl Arriving {
         state_with(end, 0, head)
     }
 
-    // The same where it isn't, or where a byte was wrong already.
+    // The same in any state: the head may not be in, or a byte was wrong already.
     fn in_head(self, bytes: &[u8]) -> Arriving
         ensures { λ r. ⌜ Takes self (now (bytes .entry)) r ⌝ }
     {

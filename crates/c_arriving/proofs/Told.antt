@@ -1,21 +1,35 @@
 -- How a state, a judgment and the share that is coming are told to C.
-use mathlib.Core.Path.{_≡_, sym, subst}
+use mathlib.Core.Path.{_≡_, sym, ap, subst}
 use mathlib.Core.List.{List}
-use Prim.Native.Nat.{ℕ}
-use lib.ListN.{length}
+use Prim.Native.Nat.{ℕ, _+_}
+use lib.ListN.{length, set}
 use Rattle.group.specs.declared.Refusal.{Refusal}
 use Rattle.group.specs.Answers.{refusalNumber, Outcome}
 use Rattle.heads.specs.declared.Head.{Head}
 use Rattle.arriving.specs.declared.Arriving.{Arriving}
 use Rattle.arriving.specs.declared.Coming.{Coming}
+use Rattle.arriving.specs.States.{headSoFar, stateWith}
+use Rattle.arriving.specs.Steps.Reaching.{StepsOver}
+use Rattle.arriving.proofs.PastHead.{all-steps}
 use Rattle.arriving.specs.Calls.{Takes, JudgesState, GoodBytesOf, comingOf, Announces}
 use Rattle.c_shares.specs.Shares.{seven, TellsJudgment}
 use Rattle.c_arriving.specs.Arrivals.{stateIn, nine, TakesWords, JudgesWords, CountsWords, TellsComing, AnnouncesWords}
+use Rattle.c_arriving.proofs.Outcomes.{words-back}
+
+-- one number put, and the others as they were
+first-put : (words : List ℕ) → length words ≡ 9 → (x : ℕ) → set words 0 x ≡ nine (stateWith x (stateIn words .wrong) (headSoFar (stateIn words)))
+first-put words e x = ap (λ ws. set ws 0 x) (sym (words-back words e))
 
 module _ (words : List ℕ) (s : Arriving) (fits : length words ≡ 9) (is : s ≡ stateIn words) where
   -- taking
   pub took : (bytes full : List ℕ) (r : Arriving) → Takes s bytes r → full ≡ nine r → TakesWords words bytes 0 full
   took bytes full r takes put = subst (TakesWords words bytes 0) (sym put) (TakesWords.taken fits r (subst (λ s. Takes s bytes r) is takes))
+
+  -- a burst that is stepped over changes the first number alone
+  pub took-first : (bytes : List ℕ) (q : ℕ) → StepsOver s bytes q → q ≡ length bytes → TakesWords words bytes 0 (set words 0 (s .at + q))
+  took-first bytes q steps all =
+      subst (λ s. StepsOver s bytes q → TakesWords words bytes 0 (set words 0 (s .at + q))) (sym is)
+      (λ st. subst (TakesWords words bytes 0) (sym (first-put words fits _)) (TakesWords.taken fits _ (all-steps _ bytes q st all))) steps
 
   -- a judgment
   pub judged : (head after : List ℕ) (j : Outcome Head) (n : ℕ) → JudgesState s j → TellsJudgment head j n after → JudgesWords words head n after

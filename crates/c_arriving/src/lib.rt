@@ -64,8 +64,13 @@ pub extern "C" fn dulvaspen_arriving_take(state: &mut [usize], bytes: &[u8]) -> 
         return 5;
     }
     let before = state_in(state);
-    let after = before.after(bytes);
-    put_state(after, state);
+    let start = before.stepped_over(bytes);
+    // Where the whole burst is stepped over, one number changes.
+    if start == bytes.len() {
+        state[0] = before.at + start;
+        return 0;
+    }
+    put_state(before.after_steps(bytes, start), state);
     0
 }
 

@@ -48,3 +48,8 @@ pub record PastHead (s : Arriving) (letters : ℕ) : Type 0 where
   pub long : headSize (s .kind) ≤ s .at
   pub total : letters ≡ heads .total (headSoFar s)
   pub within : Within (s .kind) letters (s .at)
+
+-- so many of these bytes are stepped over in a state: none, or some where their head is in
+pub data StepsOver (s : Arriving) (ys : List ℕ) : ℕ → Type 0 where
+  none : StepsOver s ys 0
+  some : (T q : ℕ) → PastHead s T → Stepped (s .kind) (s .at) T ys q → StepsOver s ys q
