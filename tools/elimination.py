@@ -1,4 +1,4 @@
-"""What the models share: systems of shifted sums written out, solved by elimination, and the programs' small generator.
+"""What the models share: systems of shifted sums written out, solved by elimination, their terms counted, and the programs' small generator.
 
 Elimination knows nothing of shifts, rounds or delays. A system is a list of rows, one for each letter, each row the
 unknowns that the letter is a sum of.
@@ -76,6 +76,17 @@ def by_substitution(rows, letters):
     return value
 
 
+def summed(rows, answer):
+    """The letter of every equation, from those of the unknowns."""
+    letters = []
+    for row in rows:
+        letter = 0
+        for unknown in row:
+            letter ^= answer[unknown]
+        letters.append(letter)
+    return bytes(letters)
+
+
 def solved(rows, letters, most=300, both=60):
     """Systems of up to `most` unknowns by Gauss's method, the others by substitution, those of up to `both` by both,
     which must agree. The answer is put back into every equation."""
@@ -84,17 +95,58 @@ def solved(rows, letters, most=300, both=60):
         assert len(rows) > both or answer == by_substitution(rows, letters)
     else:
         answer = by_substitution(rows, letters)
-    for row, letter in zip(rows, letters):
-        for unknown in row:
-            letter ^= answer[unknown]
-        assert letter == 0
+    assert summed(rows, answer) == bytes(letters)
     return answer
 
 
-def additions(s, n, ids, t):
-    """Document 01's sum over ordered pairs of ranks (docs/SCHEME.md, 8)."""
+# counts (docs/SCHEME.md, 8): one for each term whose letter, in what comes out, isn't zero. Beside each count stands the full sum, of the terms
+# whose letter is inside its sequence, whatever it is
+
+
+def terms_counted(sequence, move):
+    """At each place p = 1..n of a piece a term takes letter p + move of a sequence of n letters. It counts where that letter is
+    inside the sequence and isn't zero."""
+    n, count = len(sequence), 0
+    for p in range(1, n + 1):
+        q = p + move
+        if 1 <= q <= n and sequence[q - 1] != 0:
+            count += 1
+    return count
+
+
+def all_terms(n, move):
+    """The full sum of such terms."""
+    return max(0, n - abs(move))
+
+
+def additions(s, n, ids, t, solution):
+    """Solving's count: over the ordered pairs of two ranks, equation (b,p) takes a letter of sequence a of the solution."""
+    assert len(solution) == s * n
+    count = 0
+    for b in range(1, s + 1):
+        for a in range(1, s + 1):
+            if a != b:
+                count += terms_counted(solution[(a - 1) * n : a * n], t(ids[b - 1], b) - t(ids[b - 1], a))
+    return checked(count, all_additions(s, n, ids, t), solution)
+
+
+def all_additions(s, n, ids, t):
+    """The full sum of the same terms."""
     ranks = range(1, s + 1)
-    return sum(max(0, n - abs(t(ids[b - 1], a) - t(ids[b - 1], b))) for b in ranks for a in ranks if a != b)
+    return sum(all_terms(n, t(ids[b - 1], b) - t(ids[b - 1], a)) for b in ranks for a in ranks if a != b)
+
+
+def others_in(rows, answer):
+    """The same count by the equations, each of which stands at the index of the unknown that it is for: its other unknowns that aren't zero."""
+    return sum(unknown != own and answer[unknown] != 0 for own, row in enumerate(rows) for unknown in row)
+
+
+def checked(count, full, solution):
+    """A count is never above the full sum, is the full sum where no letter that comes out is zero, and 0 where all are."""
+    assert 0 <= count <= full
+    assert count == full or 0 in solution
+    assert count == 0 or any(solution)
+    return count
 
 
 def following(x):

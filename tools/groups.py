@@ -1,7 +1,9 @@
 """What the models of calls on groups share, tools/store_model for the repairing code and tools/preview_model for previews: letters that are
-moved, the papers' printed sums, the checks that both codes have, and numbers of the generator that are mostly right.
+moved, the papers' printed sums, the checks that both codes have, letters of which most are zero or none is, and numbers of the generator that are mostly right.
 """
 from collections import namedtuple
+
+from elimination import generated
 
 # d is 0 in a group of previews
 Group = namedtuple("Group", "n k d l")
@@ -62,6 +64,56 @@ def rising(ids):
 def spread(s, first=1):
     """So many ids of first..16, as far apart as they can be."""
     return sorted({first + (16 - first) * i // (s - 1) for i in range(s)}, reverse=True)
+
+
+# what comes out, for the counts: one letter that isn't zero, a few, or no zero at all
+
+
+def ends(n):
+    """The first of 1..n, a middle one and the last."""
+    return sorted({1, (n + 1) // 2, n})
+
+
+def one_letter(count, n, x, p):
+    """So many sequences of n letters, zeros but for letter p of sequence x."""
+    letters = bytearray(count * n)
+    letters[(x - 1) * n + p - 1] = 16 * (x % 15 + 1) + p % 16
+    return bytes(letters)
+
+
+def everywhere(count, n):
+    """One letter: in the first sequence, a middle one and the last, and in each at the first place, a middle one and the last."""
+    return [one_letter(count, n, x, p) for x in ends(count) for p in ends(n)]
+
+
+def in_each(count, n):
+    """One letter in each sequence, at these places in turn."""
+    places = ends(n)
+    return [one_letter(count, n, x, places[x % len(places)]) for x in range(1, count + 1)]
+
+
+def crossed(count, n):
+    """One letter at one of the four corners or in the middle: of the first sequence and of the last, the one end is in the most pieces and the other in
+    the fewest."""
+    middle = ((count + 1) // 2, (n + 1) // 2)
+    return [one_letter(count, n, x, p) for x, p in sorted({(1, 1), (1, n), middle, (count, 1), (count, n)})]
+
+
+def few(chooser, size, of=8):
+    """Letters of which about one in so many isn't zero, and one at least."""
+    letters = bytearray(size)
+    for at in range(size):
+        if chooser.chance(of):
+            letters[at] = chooser.within(1, 255)
+    letters[chooser.within(0, size - 1)] = chooser.within(1, 255)
+    return bytes(letters)
+
+
+def seed_without_zero(size, answer, seed):
+    """The next seed of the generator with whose letters nothing that is answered is zero."""
+    while 0 in answer(bytes(generated(size, seed))):
+        seed += 1
+    return seed
 
 
 # numbers of the generator, of which some are damaged

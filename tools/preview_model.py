@@ -6,15 +6,18 @@ library's code. From the root of the repository this makes both files again, cra
 
 Previews are the plain k-of-n code: k sequences, and a node's one packet is their sum, sequence j moved right by t(i,j) = i(j-1). Recovery writes out, for
 every letter of a buffer, which unknown letters it is the sum of, and solves these equations by elimination (tools/elimination.py), in no order of ours;
-the count is document 01's sum. The packets and pieces of the worked example are those that paper [001] prints. tools/script.py has the memories,
-and tools/groups.py what this model shares with that of the repairing code.
+the count goes term by term over what comes out (docs/SCHEME.md, 8). The packets and pieces of the worked example are those that paper [001] prints.
+tools/script.py has the memories, and tools/groups.py what this model shares with that of the repairing code.
 """
 import sys
 from itertools import combinations
 
 sys.dont_write_bytecode = True
-from elimination import additions, equations, preview_shift, solved
-from groups import Group, any_ids, bad_id, bad_ids, bad_length, bounded, lowest, moved, moved_sum, near, rising, spread, window
+from elimination import additions, all_additions, equations, others_in, preview_shift, solved, summed
+from groups import (
+    Group, any_ids, bad_id, bad_ids, bad_length, bounded, crossed, everywhere, few, lowest, moved, moved_sum, near, rising, seed_without_zero, spread,
+    window
+)
 from script import NONE, Chooser, Script, listed
 
 SCRIPT = Script(600000)
@@ -43,9 +46,23 @@ def packet(g, file, node):
     return window(total, 0, packet_length(g, node))
 
 
+def recovery_equations(g, ids):
+    return equations(g.k, g.l, ids, preview_shift)
+
+
 def recovered(g, ids, buffer):
     """The one file that the buffer comes from."""
-    return bytes(solved(equations(g.k, g.l, ids, preview_shift), buffer, 600, 200))
+    return bytes(solved(recovery_equations(g, ids), buffer, 600, 200))
+
+
+def recovery_count(g, ids, file):
+    """Over the file that comes out."""
+    return additions(g.k, g.l, ids, preview_shift, file)
+
+
+def all_recovery(g, ids):
+    """The full sum of the same terms."""
+    return all_additions(g.k, g.l, ids, preview_shift)
 
 
 # the table of refusals
@@ -99,7 +116,7 @@ def recover(b, g, ids):
     )
     if not number:
         SCRIPT.into_b(b, recovered(g, ids, buffer))
-    return line(43, "recover", NONE, b, g, listed(" nodes", ids), number, lambda: additions(g.k, g.l, ids, preview_shift))
+    return line(43, "recover", NONE, b, g, listed(" nodes", ids), number, lambda: recovery_count(g, ids, SCRIPT.in_b(b)))
 
 
 def sizes(g, node):
@@ -209,10 +226,15 @@ def examples():
 
 def encoded(g, seed):
     """A file from the generator, and all nodes encoded from it. The answer is where each node's packet stands in A."""
+    SCRIPT.fill((0, file_letters(g)), NONE, seed)
+    return stored(g, range(1, g.n + 1))
+
+
+def stored(g, nodes):
+    """These nodes encoded from the file that is there already."""
     size = file_letters(g)
-    SCRIPT.fill((0, size), NONE, seed)
     places, at = {}, size
-    for node in range(1, g.n + 1):
+    for node in nodes:
         places[node] = (at, packet_length(g, node))
         encode((0, size), places[node], g, node)
         at += packet_length(g, node)
@@ -347,6 +369,84 @@ def limits():
         recover((0, file_letters(g)), g, list(range(g.k, 0, -1)))
 
 
+# counts, where letters of what comes out are zero and where none is: all of them zero, one that isn't, a few that aren't, and no zero
+
+
+def honest(g, ids, file):
+    """A file back from what nodes send."""
+    SCRIPT.lay((0, file_letters(g)), NONE, file)
+    read(g, ids, stored(g, sorted(ids)))
+
+
+def honest_without_zero(g, ids, seed):
+    whole = (0, file_letters(g))
+    SCRIPT.fill(whole, NONE, seed_without_zero(whole[1], lambda file: file, seed))
+    read(g, ids, stored(g, sorted(ids)))
+    assert recovery_count(g, ids, SCRIPT.in_a(whole)) == all_recovery(g, ids)
+
+
+def recovers_file(g, ids, file):
+    """The pieces of a file, put into the buffer letter by letter: no node is encoded for them."""
+    place, rows = (0, len(file)), recovery_equations(g, ids)
+    SCRIPT.lay(NONE, place, summed(rows, file))
+    recover(place, g, ids)
+    assert SCRIPT.in_b(place) == file
+    assert recovery_count(g, ids, file) == others_in(rows, file)
+
+
+def recovers_without_zero(g, ids, seed):
+    """Letters of the generator from which a file without a zero comes."""
+    size = file_letters(g)
+    recovers_any(g, ids, seed_without_zero(size, lambda buffer: recovered(g, ids, buffer), seed))
+    assert recovery_count(g, ids, SCRIPT.in_b((0, size))) == all_recovery(g, ids)
+
+
+def honest_of(g, ids, ones, of=8):
+    """Files of zeros, of one letter as `ones` says, of a few letters and without a zero."""
+    size = file_letters(g)
+    assert recovery_count(g, ids, bytes(size)) == 0
+    for file in (bytes(size), *ones(g.k, g.l), few(Chooser(g.l), size, of)):
+        honest(g, ids, file)
+    honest_without_zero(g, ids, g.l)
+
+
+def recovers_of(g, ids, ones, of=8):
+    """The same from pieces that are put, of which every content is a file's; and pieces of a few letters, whatever comes of them."""
+    size, chooser = file_letters(g), Chooser(g.l)
+    for file in (bytes(size), *ones(g.k, g.l), few(chooser, size, of)):
+        recovers_file(g, ids, file)
+    SCRIPT.lay(NONE, (0, size), few(chooser, size, of))
+    recover((0, size), g, ids)
+    recovers_without_zero(g, ids, g.l)
+
+
+def counts():
+    SCRIPT.heading("Zeros aren't counted: files of zeros, of one letter, of a few and without a zero, from what honest nodes send")
+    for length, ids in ((1, [2, 1]), (2, [2, 1]), (3, [3, 2]), (7, [3, 1])):
+        honest_of(previews(3, 2, length), ids, crossed)
+    for length, ids in ((3, [5, 2, 1]), (7, [3, 2, 1])):
+        honest_of(previews(6, 3, length), ids, crossed)
+    SCRIPT.heading("The same, from pieces that are put letter by letter and from letters of the generator")
+    for n, ids, lengths in ((3, [2, 1], (1, 2, 3, 7)), (3, [3, 2], (3, 7)), (3, [3, 2, 1], (2, 7)), (6, [5, 2, 1], (3, 7)), (6, [4, 3, 2, 1], (3, 7))):
+        for length in lengths:
+            recovers_of(previews(n, len(ids), length), ids, everywhere)
+    SCRIPT.heading("Zeros aren't counted, in sequences of more than a block")
+    for g, ids in ((previews(6, 3, 130), [6, 4, 1]), (previews(3, 2, 300), [2, 1])):
+        honest_of(g, ids, crossed, 100)
+        recovers_of(g, ids, crossed, 100)
+    SCRIPT.heading("Zeros aren't counted, in sequences that are shorter than most shifts")
+    g, ids = previews(16, 6, 7), [16, 11, 7, 4, 2, 1]
+    honest(g, ids, few(Chooser(6), 42))
+    honest_without_zero(g, ids, 6)
+    recovers_of(g, [16, 15, 9, 6, 3, 2], crossed)
+    SCRIPT.heading("Zeros aren't counted, fifteen nodes and all of sixteen")
+    for g in (previews(16, 15, 5), previews(16, 16, 20)):
+        ids = list(range(g.k, 0, -1))
+        honest(g, ids, few(Chooser(g.k), file_letters(g)))
+        honest_without_zero(g, ids, g.k)
+        recovers_of(g, ids, everywhere)
+
+
 def main():
     refusals()
     examples()
@@ -357,6 +457,7 @@ def main():
     tiles()
     any_calls(1000)
     limits()
+    counts()
     SCRIPT.write("preview_runs")
 
 

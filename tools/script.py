@@ -4,6 +4,7 @@ A model makes a script line by line, and beside each line what the program must 
 comes of it behind. The memories are kept here too, so that a call finds the letters that the lines before it left.
 crates/script says what a line is.
 """
+import re
 import sys
 
 from elimination import checksum, following, generated
@@ -22,6 +23,7 @@ class Script:
     def line(self, operation, name, a, b, words, told):
         """One line, once the memories hold what it leaves. `a` and `b` are a start and a length each."""
         text = f"{operation} {name} A {a[0]} {a[1]} B {b[0]} {b[1]}{words}"
+        assert len(re.findall("[0-9]+", text)) <= NUMBERS
         self.stdin.append(text)
         self.stdout.append(f"{text}{told} sum {checksum(self.in_b(b))}")
         self.calls += operation > 10
@@ -48,6 +50,29 @@ class Script:
             memory[place[0] : place[0] + count] = bytes(letters[:count])
         self.line(2, "put", a, b, listed(" letters", letters), "")
 
+    def lay(self, a, b, letters):
+        """Letters, however many, into A's slice or into B's; the other one is none. Zeros come first, from the end of the other
+        memory, to which no line writes, and then what isn't zero, in as many lines as it takes."""
+        size = len(letters)
+        zeros = (len(self.a) - size, size)
+        assert not any(self.in_a(zeros)) and not any(self.in_b(zeros))
+        if a == NONE:
+            self.take(zeros, b)
+        else:
+            self.keep(a, zeros)
+        at = 0
+        while at < size:
+            if letters[at] == 0:
+                at += 1
+                continue
+            run = letters[at : at + NUMBERS - 5].rstrip(b"\0")
+            if a == NONE:
+                self.put(NONE, (b[0] + at, len(run)), run)
+            else:
+                self.put((a[0] + at, len(run)), NONE, run)
+            at += len(run)
+        assert (self.in_b(b) if a == NONE else self.in_a(a)) == letters
+
     def keep(self, a, b):
         count = min(a[1], b[1])
         self.a[a[0] : a[0] + count] = self.b[b[0] : b[0] + count]
@@ -73,6 +98,9 @@ NONE = (0, 0)
 
 # the room that a program has for a script's text (`room` in crates/lines)
 TEXT = 600000
+
+# the numbers that it reads of a line (crates/script_line); five of them are the operation and the two slices
+NUMBERS = 32
 
 
 def part(memory, place):

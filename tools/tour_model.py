@@ -8,6 +8,7 @@ The two lines that compare letters are what the document promises: a repair and 
 import sys
 
 sys.dont_write_bytecode = True
+from elimination import additions, all_additions, all_terms, checked, generated, terms_counted
 from shares import judge, short
 
 N, K, D, L = 6, 3, 4, 16
@@ -17,16 +18,46 @@ def t(i, j):
     return (i - 1) * (j - 1)
 
 
-def solving(ids, s, length):
-    """The count of solving (docs/SCHEME.md, 8): the first s nodes, this length."""
-    return sum(max(0, length - abs(t(ids[b - 1], a) - t(ids[b - 1], b))) for a in range(1, s + 1) for b in range(1, s + 1) if a != b)
+# the batch: `tour` scatters its letters by the generator, seed 7
+entries = [(v, u) for u in range(1, D + 1) for v in range(1, min(u, K) + 1)]
+file = generated(len(entries) * L, 7)
+
+
+def m(v, u):
+    """An entry of the matrix; zeros in its corner."""
+    v, u = min(v, u), max(v, u)
+    if (v, u) not in entries:
+        return [0] * L
+    start = entries.index((v, u)) * L
+    return file[start : start + L]
+
+
+def packets(node):
+    """All letters that a disk holds (docs/SCHEME.md, 4)."""
+    letters = []
+    for j in range(1, D + 1):
+        for p in range(1, L + t(node, D) + 1):
+            letter = 0
+            for u in range(1, D + 1):
+                if 1 <= p - t(node, u) <= L:
+                    letter ^= m(u, j)[p - t(node, u) - 1]
+            letters.append(letter)
+    return letters
 
 
 def recovering(ids):
-    pushes = sum(
-        max(0, L - (t(ids[w - 1], u) - t(ids[w - 1], w)))
-        for u in range(2, D + 1) for v in range(1, min(u - 1, K) + 1) for w in range(1, v + 1))
-    return sum(solving(ids, min(u, K), L) for u in range(1, D + 1)) + pushes
+    """The count of a recovery (docs/SCHEME.md, 8): the columns are solved, and taken out of the earlier ones."""
+    count = full = 0
+    for u in range(1, D + 1):
+        s = min(u, K)
+        count += additions(s, L, ids, t, [letter for v in range(1, s + 1) for letter in m(v, u)])
+        full += all_additions(s, L, ids, t)
+        for v in range(1, min(u - 1, K) + 1):
+            for w in range(1, v + 1):
+                move = t(ids[w - 1], w) - t(ids[w - 1], u)
+                count += terms_counted(m(v, u), move)
+                full += all_terms(L, move)
+    return checked(count, full, file)
 
 
 batch = (K * D - K * (K - 1) // 2) * L
@@ -38,7 +69,7 @@ print("Disk 5 fills up: its share has 145 of 146 bytes, judged unfinished, so it
 print(f"Disks 2 and 5 are lost: zeros in their place are judged malformed {short(judge([0] * 146))}.")
 piece = L + t(2, D)
 print(f"Disk 2 is rebuilt from disks 6, 4, 3 and 1: they send {D * piece} letters, where the whole batch has {batch}; "
-      f"letter additions: {solving([6, 4, 3, 1], D, piece)}.")
+      f"letter additions: {additions(D, piece, [6, 4, 3, 1], t, packets(2))}.")
 print("  Its packets are letter for letter what they were; its share is judged complete.")
 print(f"The batch is recovered from disks 4, 2 and 1: they send {batch} letters, no more than it has; letter additions: {recovering([4, 2, 1])}.")
 print("  It is the batch, letter for letter.")

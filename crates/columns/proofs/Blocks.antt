@@ -10,7 +10,7 @@ use lib.Seq.{getD-set-same, getD-set-other}
 use Rattle.letters.specs.Algebra.{xors, sum}
 use Rattle.letters.specs.Laid.{Laid}
 use Rattle.letters.proofs.Cases.{le-or-lt, eq-or-ne}
-use Rattle.letters.proofs.Sums.{sum-same}
+use Rattle.letters.proofs.Sums.{sum-same, sum-first}
 use Rattle.sums.specs.Sums.{runStart, sumAt, RunsInside, NoneBefore}
 use Rattle.system.proofs.System.{sequence-inside}
 use Rattle.group.specs.declared.Group.{Group}
@@ -19,7 +19,6 @@ use Rattle.matrix.specs.Matrix.{entryNumber}
 use Rattle.matrix.proofs.Columns.{entry-fits}
 use Rattle.columns.specs.Steps.Columns.{standing, movedBy, fromColumn, fromNext, Entry, Grown}
 use Rattle.columns.proofs.Growing.{base, laid-grown}
-use Rattle.columns.proofs.MoreSums.{sum-first}
 use Rattle.columns.proofs.Moving.{moves-rise}
 use Rattle.columns.proofs.Pulling.{entries-fit, source}
 

@@ -1,6 +1,5 @@
--- Why each entry loses what it loses, and what that is worth.
+-- Why each entry loses what it loses.
 pub mod Blocks
 pub mod Growing
-pub mod MoreSums
 pub mod Moving
 pub mod Pulling

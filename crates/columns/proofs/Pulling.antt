@@ -7,21 +7,19 @@ use native.Mathlib.Omega.{arith}
 use lib.Bits.{bitXor, xor-zero-r}
 use lib.ListN.{length, getD, take, drop, length-drop}
 use lib.Seq.{getD-take, getD-drop, length-take-le}
-use Rattle.letters.specs.Algebra.{xors, counts}
+use Rattle.letters.specs.Algebra.{xors}
 use Rattle.letters.specs.Runs.{added}
-use Rattle.letters.specs.Worth.{worthOf}
 use Rattle.letters.proofs.Cases.{le-or-lt, eq-or-ne}
 use Rattle.letters.proofs.Sums.{sum-same, sum-none, sum-more, sum-none-terms}
-use Rattle.system.specs.Count.{within}
 use Rattle.system.proofs.System.{sequence-inside}
 use Rattle.group.specs.declared.Group.{Group}
 use Rattle.lengths.specs.Lengths.{fileLetters}
 use Rattle.matrix.specs.Matrix.{matrix, entryNumber}
 use Rattle.matrix.proofs.Columns.{before-apart, entry-fits, from-one}
 use Rattle.matrix.proofs.Product.{corner, free, entries}
-use Rattle.columns.specs.Steps.Columns.{standing, movedBy, seenAt, fromColumn, fromNext, runWorth, entryWorth, pullWorth, Entry, Grown, Pulled}
+use Rattle.columns.specs.Steps.Columns.{standing, movedBy, seenAt, fromColumn, fromNext, Entry, Grown, Pulled}
 use Rattle.columns.proofs.Growing.{added-laid, sequences-apart, base, laid-grown, grown-none, grown-again, grown-on}
-use Rattle.columns.proofs.Moving.{rises, pull-worth, corner-worth}
+use Rattle.columns.proofs.Moving.{rises}
 
 -- an entry of an earlier column stands before one of a later
 entry-before :
@@ -46,26 +44,6 @@ module _ (g : Group) (ids : List ℕ) (v : ℕ) (before after : List ℕ)
   same-next w p =
       sum-same xors (g .d - v) (λ j. fromColumn g ids after v w (v + j) p) (λ j. fromColumn g ids before v w (v + j) p)
       (λ j lo hi. same-column w (v + j) p (omega arith) (omega arith))
-
-  same-run : (w u : ℕ) → v ≤ g .k → v < u → u ≤ g .d → runWorth g ids after u v w ≡ runWorth g ids before u v w
-  unfolding runWorth
-  same-run w u low later hu =
-      sum-same counts (g .l) (λ p. within (g .l) (seenAt ids w u p) (worthOf (standing g after v u (seenAt ids w u p))))
-      (λ p. within (g .l) (seenAt ids w u p) (worthOf (standing g before v u (seenAt ids w u p))))
-      (λ p lo hi. ap (λ z. within (g .l) (seenAt ids w u p) (worthOf z)) (same u (seenAt ids w u p) low later hu))
-
-  pub same-worth : pullWorth g ids after v ≡ pullWorth g ids before v
-  same-worth =
-      ⊎-elim
-      (λ low.
-      pull-worth g ids after v low
-      ∙ sum-same counts v (λ w. entryWorth g ids after v w) (λ w. entryWorth g ids before v w)
-      (λ w lw hw.
-      sum-same counts (g .d - v) (λ j. runWorth g ids after (v + j) v w) (λ j. runWorth g ids before (v + j) v w)
-      (λ j lo hi. same-run w (v + j) low (omega arith) (omega arith)))
-      ∙ sym (pull-worth g ids before v low))
-      (λ high. corner-worth g ids after v high ∙ sym (corner-worth g ids before v high))
-      (le-or-lt v (g .k))
 
 module _ (g : Group) (ids rows : List ℕ) (v w : ℕ) (e : Entry g ids rows v w) where
   -- what is added into the entry leaves the later columns as they are

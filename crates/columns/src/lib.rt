@@ -2,53 +2,29 @@
 use group::Group;
 use matrix::entries;
 ghost use mathlib.Core.Path.{_≡_};
-ghost use mathlib.Core.List.{List};
-ghost use Prim.Native.Nat.{ℕ, _+_, _-_, _≤_, min};
+ghost use Prim.Native.Nat.{_+_, _-_, _≤_, min};
 ghost use lib.ListN.{length};
 ghost use Rattle.shifts.specs.Rule.{t};
 ghost use Rattle.group.specs.Ranges.{widest};
 ghost use Rattle.lengths.specs.Lengths.{fileLetters};
 ghost use Rattle.sequences.specs.Steps.Rows.{RowsOf};
 ghost use Rattle.matrix.specs.Pieces.{Chosen};
-ghost use Rattle.columns.specs.Steps.Columns.{entryMost, columnMost, movedBy, fromColumn, fromNext, entryWorth, pullWorth, Collected, Entry, Grown, Pulled};
+ghost use Rattle.columns.specs.Steps.Columns.{movedBy, fromColumn, fromNext, Collected, Entry, Grown, Pulled};
 
 // Takes the columns after column `v`, which are solved, out of it: entry (w,v) loses each m(v,u) moved right by t(iw,u) - t(iw,w).
-// Past column k there is nothing to take: that is the matrix's zero corner. The answer is what the additions are worth in a count.
-pub fn pull_column(g: Group, ids: &[usize], rows: &[usize], v: usize, buffer: &mut [u8]) -> usize
+// Past column k there is nothing to take: that is the matrix's zero corner.
+pub fn pull_column(g: Group, ids: &[usize], rows: &[usize], v: usize, buffer: &mut [u8])
     requires { ⌜ (Collected g (now ids) (now buffer)) × (RowsOf t (now ids) (now rows)) × (1 ≤ v) × (v ≤ g .d) ⌝ }
-    ensures { λ r. ⌜ Pulled g (now (ids .entry)) v (min v (g .k)) (now (buffer .entry)) (now (buffer .exit)) ⌝ }
-    ensures count { λ r. ⌜ r ≡ pullWorth g (now (ids .entry)) (now (buffer .entry)) v ⌝ }
-    ensures bound { λ r. ⌜ r ≤ columnMost ⌝ }
+    ensures { λ _. ⌜ Pulled g (now (ids .entry)) v (min v (g .k)) (now (buffer .entry)) (now (buffer .exit)) ⌝ }
 {
     if g.k < v {
-        return 0;
+        return;
     }
-    let mut count: usize = 0;
     let mut w = 0;
     while w < v {
         w += 1;
         pull_entry(g, ids, rows, v, w, buffer);
-        count += terms(g, ids, rows, v, w);
     }
-    count
-}
-
-// What it is worth to take all later columns out of one entry, whatever the letters: each of its terms counts as one.
-fn terms(g: Group, ids: &[usize], rows: &[usize], v: usize, w: usize) -> usize
-    requires { ⌜ Entry g (now ids) (now rows) v w ⌝ }
-    ensures { λ r. ⌜ ((buffer : List ℕ) → r ≡ entryWorth g (now (ids .entry)) buffer v w) ⌝ }
-    ensures bound { λ r. ⌜ r ≤ entryMost ⌝ }
-{
-    let mut count: usize = 0;
-    let mut u = v;
-    while u < g.d {
-        u += 1;
-        let moved = moved_by(g, ids, rows, w, u);
-        if moved < g.l {
-            count += g.l - moved;
-        }
-    }
-    count
 }
 
 // Takes all later columns out of one entry. Behind the place that the last of them is moved to, each letter has a letter of every one of them:

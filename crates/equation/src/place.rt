@@ -1,15 +1,8 @@
-// The shifts of a system, read by rank and column, and how far two of them lie apart.
+// The shifts of a system, read by rank and column.
 ghost use mathlib.Core.Path.{_≡_};
-ghost use Prim.Native.Nat.{_-_, _≤_};
+ghost use Prim.Native.Nat.{_≤_};
 ghost use lib.ListN.{length};
 ghost use Rattle.equation.specs.Rows.{shiftIn};
-
-// How much more one number is than another, or 0.
-pub fn gap(own: usize, left: usize) -> usize
-    ensures { λ r. ⌜ r ≡ own - left ⌝ }
-{
-    if left <= own { own - left } else { 0 }
-}
 
 // The shift of the node of rank `b` at column `a`.
 pub fn shift_in(rows: &[usize], b: usize, a: usize) -> usize

@@ -13,7 +13,7 @@ use Rattle.lengths.specs.Lengths.{nodeLetters}
 use Rattle.sequences.specs.Lists.{joined}
 use Rattle.matrix.specs.Matrix.{packets}
 use Rattle.matrix.specs.Pieces.{reading}
-use Rattle.matrix.specs.Counts.{recoveryCost}
+use Rattle.matrix.specs.Counts.{recoveryCount}
 use Rattle.matrix.specs.Repair.{helping, equations}
 use Rattle.records.specs.Records.{blockRecords, fullBlocks, lastBlock}
 use Rattle.layout.specs.Share.{shareOf, ShareOf}
@@ -105,5 +105,5 @@ nothing any h = Judges.unfinished (nothing-begins heads lawful)
 
 -- P1 to P12
 pub twelve-hold : AllHold twelve
-unfolding AllHold twelve packets reading recoveryCost joined helping equations shareOf blockRecords fullBlocks lastBlock rowForKind
+unfolding AllHold twelve packets reading recoveryCount joined helping equations shareOf blockRecords fullBlocks lastBlock rowForKind
 twelve-hold = (refl, (refl, (refl, ((refl, refl), ((refl, refl), ((refl, refl), ((refl, refl), ((refl, refl), ((refl, refl, judged), (cut, (longer, (nothing, tt))))))))))))

@@ -9,7 +9,7 @@ use Rattle.group.specs.Answers.{Outcome}
 use Rattle.sequences.specs.Lists.{joined, ranked}
 use Rattle.matrix.specs.Matrix.{packets}
 use Rattle.matrix.specs.Pieces.{reading}
-use Rattle.matrix.specs.Counts.{recoveryCost}
+use Rattle.matrix.specs.Counts.{recoveryCount}
 use Rattle.matrix.specs.Repair.{helping, equations}
 use Rattle.layout.specs.Share.{shareOf}
 use Rattle.heads.specs.declared.Head.{Head}
@@ -37,7 +37,7 @@ pieces g file lost helpers =
 -- what it means that an example holds
 abbrev pub Agrees : Example → Type 0
 Agrees (Example.packetsOf g file node held) = packets xors g file node ≡ held
-Agrees (Example.recovery g file ids buffer count) = (reading xors g file ids ≡ buffer) × (recoveryCost g ids ≡ count)
+Agrees (Example.recovery g file ids buffer count) = (reading xors g file ids ≡ buffer) × (recoveryCount g ids file ≡ count)
 Agrees (Example.repair g file lost helpers sent) =
     (pieces g file lost helpers ≡ sent) × (equations xors g lost helpers (packets xors g file lost) ≡ sent)
 Agrees (Example.share g file node batch bytes size) =

@@ -1,7 +1,7 @@
 -- What a refused call and one that is not refused leave.
 use mathlib.Core.Path.{_≡_, refl, sym, ap₂, _∙_}
 use mathlib.Core.List.{List}
-use Prim.Native.Nat.{ℕ, zero, suc}
+use Prim.Native.Nat.{ℕ, zero, suc, _≤_}
 use native.Mathlib.Omega.{arith}
 use lib.Dec.{eqb}
 use lib.ListN.{length}
@@ -55,3 +55,8 @@ fine-value r q v a z = a .valued ∙ if-fine q v 0 (fine-number r q v a z)
 -- a call that is not refused leaves what is right
 pub called-fine : (q v : ℕ) (right before after : List ℕ) (r : Answer) → Called q v right before after r → numberOf r ≡ 0 → after ≡ right
 called-fine q v right before after r c z = c .holds ∙ if-fine q right before (fine-number r q v (c .answer) z)
+
+-- an answer is at most what every value is that isn't refused
+pub answer-at-most : (r : Answer) (refusal value most : ℕ) → Answers r refusal value → (refusal ≡ 0 → value ≤ most) → valueOf r ≤ most
+answer-at-most r zero value most a h = omega (arith, a .valued, h refl)
+answer-at-most r (suc refusal) value most a h = omega (arith, a .valued)

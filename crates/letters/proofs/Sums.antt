@@ -92,6 +92,11 @@ module _ {A : Type 0} (𝓐 : Adding A) where
       ∙ ap₂ (𝓐 .plus) (sum-split n m f) (ap f (sym (add-suc n m)))
       ∙ 𝓐 .assoc (sum 𝓐 n f) (sum 𝓐 m (λ i. f (n + i))) (f (n + suc m))
 
+  -- a sum from its first term on
+  pub sum-first : (n : ℕ) (f : ℕ → A) → sum 𝓐 (1 + n) f ≡ 𝓐 .plus (f 1) (sum 𝓐 n (λ i. f (1 + i)))
+  unfolding sum
+  sum-first n f = sum-split 1 n f ∙ ap (λ x. 𝓐 .plus x (sum 𝓐 n (λ i. f (1 + i)))) (none-plus (f 1))
+
 module _ {A : Type 0} (𝓛 : Letters A) where
   -- a letter added twice is gone
   pub plus-twice : (x y : A) → 𝓛 .adding .plus (𝓛 .adding .plus x y) y ≡ x

@@ -4,5 +4,4 @@ pub mod Places
 pub mod Runs
 pub mod Laid
 pub mod Lanes
-pub mod Worth
 pub mod Steps

@@ -7,18 +7,19 @@ use denote.Ref.{now}
 use Rattle.letters.specs.Algebra.{bytes, xors}
 use Rattle.letters.specs.Runs.{xored}
 use Rattle.shifts.specs.Rule.{previewShift}
+use Rattle.worth.specs.Worth.{NoZero}
 use Rattle.group.specs.declared.Group.{Group}
 use Rattle.group.specs.declared.Answer.{Answer}
 use Rattle.group.specs.Answers.{numberOf, valueOf}
 use Rattle.group.proofs.Refusals.{if-fine}
-use Rattle.group.proofs.Called.{fine-number, fine-value, called-fine}
+use Rattle.group.proofs.Called.{fine-number, fine-value, called-fine, answer-at-most}
 use Rattle.sequences.specs.Lists.{run, ranked}
 use Rattle.sequences.proofs.Lists.{length-run}
 use Rattle.sequences.proofs.Sequences.{placed-run, is-runs}
 use Rattle.preview_numbers.specs.Previews.{previewFile, previewPacket, PreviewNode}
-use Rattle.preview_product.specs.Preview.{previewLetter, previewLetters, previewPiece, previewReading, previewPieceIn, previewCost, PreviewReaders}
+use Rattle.preview_product.specs.Preview.{previewLetter, previewLetters, previewPiece, previewReading, previewPieceIn, previewCount, previewCost, PreviewReaders}
 use Rattle.preview_product.proofs.Linear.{previews-linear}
-use Rattle.preview_product.proofs.Ranks.{preview-cost}
+use Rattle.preview_product.proofs.Ranks.{preview-count-at-most, preview-count-all}
 use Rattle.preview_product.proofs.Theorems.{length-preview-letters, preview-once, preview-handed}
 use Rattle.preview_packets.specs.Calls.{PreviewEncoded}
 use Rattle.preview_pieces.specs.Calls.{previewPieceRefusal, previewEntryRefusal}
@@ -84,23 +85,34 @@ module _ (g : Group) (ids : List ℕ) (readers : PreviewReaders g ids) (file : L
       is-runs 0 (g .k) (g .l) sent buffer (c .long)
       (λ v p lv hv lp hp. placed-run 0 buffer (g .l) v (sent v) (laid v lv hv) p lp hp)
 
--- read, then recover: the buffer at exit is the file, and the answer is document 01's sum (docs/SCHEME.md, 8)
+-- read, then recover: the buffer at exit is the file, and the answer is the number of terms of document 01's sum whose letter of the file isn't zero (docs/SCHEME.md, 8)
 pub preview-read-then-recover :
     (g : Group) (ids file : List ℕ) (held : ℕ → List ℕ) (buffer after : List ℕ) (r : Answer) → previewReadersRefusal g ids ≡ 0
     → length file ≡ previewFile g → ((v : ℕ) → 1 ≤ v → v ≤ g .k → held v ≡ previewLetters xors g file (ranked ids v))
     → PreviewCollects g ids held buffer → PreviewRecovered g ids buffer after r
-    → (numberOf r ≡ 0) × (valueOf r ≡ previewCost g ids) × (after ≡ file)
+    → (numberOf r ≡ 0) × (valueOf r ≡ previewCount g ids file) × (after ≡ file)
 preview-read-then-recover g ids file held buffer after r allowed long honest c rec =
     let readers = preview-readers-of g ids allowed .readers in
     let fine = of-preview-recover g ids (length buffer) allowed (c .long) in
-    let z = rec .answer .number ∙ fine in (
-      z,
-      fine-value r _ _ (rec .answer) z ∙ preview-cost g ids after,
-      preview-once bytes g ids readers after file (rec .same-length ∙ c .long) long
-          (sym (if-fine _ (previewReading xors g after ids) after fine)
-          ∙ rec .holds
-          ∙ preview-collected g ids readers file held honest buffer c),
-    )
+    let z = rec .answer .number ∙ fine in
+    let same =
+    preview-once bytes g ids readers after file (rec .same-length ∙ c .long) long
+    (sym (if-fine _ (previewReading xors g after ids) after fine)
+    ∙ rec .holds
+    ∙ preview-collected g ids readers file held honest buffer c) in
+    (z, fine-value r _ _ (rec .answer) z ∙ ap (previewCount g ids) same, same)
+
+-- the answer is never more than document 01's sum, whatever letters come in, and that sum if no letter of the file that comes out is zero
+pub preview-recover-never-more :
+    (g : Group) (ids before after : List ℕ) (r : Answer) → PreviewRecovered g ids before after r → valueOf r ≤ previewCost g ids
+preview-recover-never-more g ids before after r rec = answer-at-most r _ _ _ (rec .answer) (λ fine. preview-count-at-most g ids after)
+
+pub preview-recover-every :
+    (g : Group) (ids before after : List ℕ) (r : Answer) → PreviewRecovered g ids before after r → numberOf r ≡ 0 → NoZero after
+    → valueOf r ≡ previewCost g ids
+preview-recover-every g ids before after r rec z some =
+    let w = preview-recover-of g ids (length before) (fine-number r _ _ (rec .answer) z) in
+    fine-value r _ _ (rec .answer) z ∙ preview-count-all g ids after (rec .same-length ∙ w .1) some
 
 -- recover, then read: the pieces that were there
 pub preview-recover-then-read :

@@ -40,12 +40,12 @@ unfoldable pub previewPieceIn : {A : Type 0} → Group → ℕ → ℕ → List 
 unfolding previewShift
 previewPieceIn g i v held = take (g .l) (drop (previewShift i v) held)
 
--- what recovering is worth, where this is the file that comes out
+-- the count of recovery, where this is the file that comes out: the terms of solving with s = k and N = L whose letter isn't zero
 unfoldable pub previewCount : Group → List ℕ → List ℕ → ℕ
 unfolding additions sequence ranked previewShift
 previewCount g ids file = additions (g .k) (g .l) (ruled previewShift (ranked ids)) (sequence 0 file (g .l))
 
--- the number of those additions: document 01's solving sum (docs/SCHEME.md, 8) with s = k and N = L
+-- the number of all those terms: document 01's solving sum (docs/SCHEME.md, 8)
 unfoldable pub previewCost : Group → List ℕ → ℕ
 unfolding cost ranked previewShift
 previewCost g ids = cost (g .k) (g .l) (ruled previewShift (ranked ids))

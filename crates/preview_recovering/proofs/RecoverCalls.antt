@@ -9,7 +9,7 @@ use borrow.Author.Tests.{eqb-true, eq-eqb}
 use Rattle.letters.specs.Algebra.{xors}
 use Rattle.shifts.specs.Rule.{previewShift}
 use Rattle.system.specs.System.{sequence}
-use Rattle.solving.specs.Solver.{Solved}
+use Rattle.solving.specs.Solver.{SolvedCounted}
 use Rattle.group.specs.declared.Group.{Group}
 use Rattle.group.specs.declared.Refusal.{Refusal}
 use Rattle.group.specs.declared.Answer.{Answer}
@@ -55,12 +55,12 @@ preview-recover-refused g ids before r e =
 
 pub preview-recover-fine :
     (g : Group) (ids before after rows : List ℕ) (count : ℕ) → CheckedReaders g ids → length before ≡ previewFile g
-    → previewRecoverRefusal g ids (length before) ≡ 0 → RowsOf previewShift ids rows → Solved (g .k) (g .l) rows before after count
+    → previewRecoverRefusal g ids (length before) ≡ 0 → RowsOf previewShift ids rows → SolvedCounted (g .k) (g .l) rows before after count
     → PreviewRecovered g ids before after (Answer.Value count)
 unfolding previewCount previewFile
 preview-recover-fine g ids before after rows count c long e r s =
     solves-fine (previewRecoverRefusal g ids (length before)) count (λ file. previewReading xors g file ids) (previewCount g ids) before after e
     (s .counted ∙ charted-additions previewShift ids rows r (g .k) (preview-ranks g ids (c .readers)) (g .k) (omega arith) (omega arith) (g .l) (sequence 0 after (g .l)))
-    (s .same-length)
+    (s .solved .same-length)
     (reading-parts xors g after ids
-    ∙ charted-parts previewShift ids rows r (g .k) (preview-ranks g ids (c .readers)) (g .k) (omega arith) (omega arith) (g .l) before after long (s .parts))
+    ∙ charted-parts previewShift ids rows r (g .k) (preview-ranks g ids (c .readers)) (g .k) (omega arith) (omega arith) (g .l) before after long (s .solved .parts))

@@ -10,7 +10,8 @@ ghost use Rattle.preview_recovering.specs.Calls.{previewReadersRefusal, 
 ghost use Rattle.preview_recovering.specs.Steps.Checked.{CheckedReaders};
 
 // Turns the k pieces in `buffer`, L letters each, one after another by rank, into the file, in place: the one file that has those pieces, for any letters whatever.
-// The answer is the number of letter additions. Refusals: 1, 2, 3 for an id outside 1..n or another number of ids than k,
+// The answer is how many letters that aren't zero it takes to add: the terms of document 01's solving sum whose letter isn't zero in the file that comes out.
+// Refusals: 1, 2, 3 for an id outside 1..n or another number of ids than k,
 // 4 for ids that don't fall strictly, 5 for a buffer of another length than k*L. A refused call leaves `buffer` as it was.
 pub fn recover(g: Group, ids: &[usize], buffer: &mut [u8]) -> Answer
     ensures { λ r. ⌜ PreviewRecovered g (now (ids .entry)) (now (buffer .entry)) (now (buffer .exit)) r ⌝ }
@@ -41,5 +42,5 @@ fn recover_exact(g: Group, ids: &[usize], buffer: &mut [u8]) -> Answer
         return Answer::Refused(Refusal::Input);
     }
     let rows = rows::preview_rows(ids);
-    Answer::Value(solving::solve(buffer, g.k, g.l, &rows))
+    Answer::Value(solving::solve_counted(buffer, g.k, g.l, &rows))
 }

@@ -8,7 +8,7 @@ use lib.ListN.{length}
 use borrow.Author.Tests.{eqb-true}
 use Rattle.letters.specs.Algebra.{xors}
 use Rattle.system.specs.System.{sequence}
-use Rattle.solving.specs.Solver.{Solved}
+use Rattle.solving.specs.Solver.{SolvedCounted}
 use Rattle.shifts.specs.Rule.{t}
 use Rattle.group.specs.declared.Group.{Group}
 use Rattle.group.specs.declared.Refusal.{Refusal}
@@ -38,16 +38,16 @@ repair-refused g lost helpers before r e =
 
 pub repair-fine :
     (g : Group) (lost : ℕ) (helpers before after rows : List ℕ) (n count : ℕ) → Helpers g lost helpers → length before ≡ repairBuffer g lost
-    → repairRefusal g lost helpers (length before) ≡ 0 → n ≡ repairLetters g lost → RowsOf t helpers rows → Solved (g .d) n rows before after count
+    → repairRefusal g lost helpers (length before) ≡ 0 → n ≡ repairLetters g lost → RowsOf t helpers rows → SolvedCounted (g .d) n rows before after count
     → Repaired g lost helpers before after (Answer.Value count)
 unfolding equations repairCount
 repair-fine g lost helpers before after rows n count h long e size r solved =
-    let s = subst (λ m. Solved (g .d) m rows before after count) size solved in
+    let s = subst (λ m. SolvedCounted (g .d) m rows before after count) size solved in
     let few : g .d ≤ 16 = omega arith in
     solves-fine (repairRefusal g lost helpers (length before)) count (equations xors g lost helpers) (repairCount g lost helpers) before after e
     (s .counted ∙ charted-additions t helpers rows r (g .d) (ranks g (g .d) helpers (h .chosen) few) (g .d) (omega arith) (omega arith) (repairLetters g lost) (sequence 0 after (repairLetters g lost)))
-    (s .same-length)
-    (charted-parts t helpers rows r (g .d) (ranks g (g .d) helpers (h .chosen) few) (g .d) (omega arith) (omega arith) (repairLetters g lost) before after (long ∙ same-buffer g lost) (s .parts))
+    (s .solved .same-length)
+    (charted-parts t helpers rows r (g .d) (ranks g (g .d) helpers (h .chosen) few) (g .d) (omega arith) (omega arith) (repairLetters g lost) before after (long ∙ same-buffer g lost) (s .solved .parts))
 
 pub helpers-of : (g : Group) (lost : ℕ) (helpers : List ℕ) → helpersRefusal g lost helpers ≡ 0 → Helpers g lost helpers
 unfolding helpersRefusal

@@ -11,7 +11,8 @@ ghost use Rattle.rebuilding.specs.Calls.{apartRefusal, helpersRefusal, R
 ghost use Rattle.rebuilding.specs.Steps.Checked.{Helpers};
 
 // Turns the d pieces in `buffer`, L' letters each, one after another in the helpers' order, into the lost node's d packets, in place.
-// For letters that no honest helpers send, that is the one solution of the d equations. The answer is the number of letter additions.
+// For letters that no honest helpers send, that is the one solution of the d equations. The answer is how many letters that aren't zero it takes to add:
+// the terms of document 01's sum whose letter isn't zero in the packets that come out.
 // Refusals: 1, 2, 3 for an id outside 1..n or another number of helpers than d, 4 for helpers that don't fall strictly or have the lost
 // node among them, 5 for a buffer of another length than d*L'. A refused call leaves `buffer` as it was.
 pub fn repair(g: Group, lost: usize, helpers: &[usize], buffer: &mut [u8]) -> Answer
@@ -65,5 +66,5 @@ fn repair_exact(g: Group, lost: usize, helpers: &[usize], buffer: &mut [u8]) -> 
     }
     let n = lengths::known::repair(g, lost);
     let rows = rows::shift_rows(helpers);
-    Answer::Value(solving::solve(buffer, g.d, n, &rows))
+    Answer::Value(solving::solve_counted(buffer, g.d, n, &rows))
 }

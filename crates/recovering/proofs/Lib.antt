@@ -1,5 +1,4 @@
 -- Why recovery keeps its contract: column by column, from the last one down.
-pub mod ColumnCounts
 pub mod Outcomes
 pub mod RecoverCalls
 pub mod SolveColumn

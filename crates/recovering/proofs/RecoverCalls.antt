@@ -51,7 +51,7 @@ recover-refused g ids before r e =
 
 pub recover-fine :
     (g : Group) (ids before after : List ℕ) (count : ℕ) → Collected g ids before → recoverRefusal g ids (length before) ≡ 0
-    → Stage g ids 0 before after count → Recovered g ids before after (Answer.Value count)
-recover-fine g ids before after count collected e stage =
-    let w = stage-end g ids before after count collected stage in
-    solves-fine (recoverRefusal g ids (length before)) count (λ file. reading xors g file ids) (recoveryCount g ids) before after e (w .1) (stage .same-length) (w .0)
+    → Stage g ids 0 before after → count ≡ recoveryCount g ids after → Recovered g ids before after (Answer.Value count)
+recover-fine g ids before after count collected e stage counted =
+    solves-fine (recoverRefusal g ids (length before)) count (λ file. reading xors g file ids) (recoveryCount g ids) before after e counted (stage .same-length)
+    (stage-end g ids before after collected stage)

@@ -1,60 +1,34 @@
 -- One column solved where it lies, as a part of the buffer: its entries are the part's sequences, and all others are as they were.
-use mathlib.Core.Path.{_≡_, refl, sym, ap, ap₂, subst, _∙_}
-use mathlib.Core.Bool.{Bool, true, false, cond}
+use mathlib.Core.Path.{_≡_, sym, ap, subst, _∙_}
 use mathlib.Core.List.{List}
 use mathlib.Core.Logic.{⊎-elim}
 use Prim.Native.Nat.{ℕ, _+_, _-_, _*_, _≤_, _<_, min}
-use native.Mathlib.Nat.{add-mul, mul-le-mul, mul-le-mul-right, add-comm, add-assoc, mul-one, eq-or-lt-of-le}
+use native.Mathlib.Nat.{add-mul, mul-le-mul-right, add-assoc, eq-or-lt-of-le}
 use native.Mathlib.Omega.{arith}
-use lib.Dec.{eqb}
 use lib.ListN.{length, getD, take, drop, length-drop}
 use lib.Seq.{getD-take, getD-drop, length-take-le}
-use Rattle.letters.specs.Algebra.{xors, counts, sum}
-use Rattle.letters.specs.Places.{inside}
-use Rattle.letters.specs.Worth.{worthOf}
+use Rattle.letters.specs.Algebra.{xors}
 use Rattle.letters.proofs.Cases.{le-or-lt}
 use Rattle.letters.proofs.Places.{letter-same}
-use Rattle.letters.proofs.Sums.{sum-at-most}
-use Rattle.letters.proofs.Worth.{worthOf-at-most}
 use Rattle.system.specs.System.{sequence}
-use Rattle.system.specs.Count.{taken, ofEquation, additions}
-use Rattle.equation.specs.Rows.{shiftIn}
 use Rattle.solving.specs.Solver.{Solved}
 use Rattle.system.proofs.System.{part-same, index-below}
 use Rattle.shifts.specs.Rule.{t}
 use Rattle.group.specs.declared.Group.{Group}
-use Rattle.group.specs.Ranges.{longest}
 use Rattle.lengths.specs.Lengths.{fileLetters}
 use Rattle.matrix.specs.Matrix.{before, entryNumber}
 use Rattle.sequences.specs.Steps.Rows.{RowsOf}
-use Rattle.columns.specs.Steps.Columns.{entryMost, columnMost, standing, pullWorth, Collected, Pulled}
-use Rattle.columns.proofs.Pulling.{same-worth}
-use Rattle.recovering.specs.Steps.Recovery.{columnWorth, Column}
+use Rattle.columns.specs.Steps.Columns.{standing, Collected, Pulled}
+use Rattle.recovering.specs.Steps.Recovery.{Column}
 use Rattle.matrix.proofs.ChosenRanks.{ranks}
-use Rattle.sequences.proofs.Charted.{additions-same, charted-part, charted-additions}
+use Rattle.sequences.proofs.Charted.{charted-part}
 use Rattle.matrix.proofs.Columns.{before-apart, before-all}
 use Rattle.sequences.proofs.PutBack.{back, back-length, back-before, back-inside, back-after}
 use Rattle.matrix.proofs.Reading.{shifts}
 
--- what solving is worth is at most one for each equation and sequence
-pub additions-bound : (s n : ℕ) (u x : ℕ → ℕ → ℕ) → additions s n u x ≤ s * (n * s)
-unfolding additions ofEquation taken
-additions-bound s n u x =
-    sum-at-most s (n * s) (λ b. sum counts n (λ p. ofEquation s n u x b p))
-    (λ b lb hb.
-    sum-at-most n s (λ p. ofEquation s n u x b p)
-    (λ p lp hp.
-    subst (λ m. ofEquation s n u x b p ≤ m) (mul-one s)
-    (sum-at-most s 1 (λ a. taken n u x b p a) (λ a la ha. small (eqb a b) (inside n ((p + u b b) - u b a)) (worthOf (x a ((p + u b b) - u b a))) (worthOf-at-most (x a ((p + u b b) - u b a)))))))
-  where
-    small : (own here : Bool) (m : ℕ) → m ≤ 1 → cond own 0 (cond here m 0) ≤ 1
-    small true here m h = omega arith
-    small false true m h = h
-    small false false m h = omega arith
-
 -- what was solved for as many sequences, by another name of that number
-pub solved-as : (s s′ n : ℕ) (rows lent solution : List ℕ) (count : ℕ) → s ≡ s′ → Solved s n rows lent solution count → Solved s′ n rows lent solution count
-solved-as s s′ n rows lent solution count e solved = subst (λ m. Solved m n rows lent solution count) e solved
+pub solved-as : (s s′ n : ℕ) (rows lent solution : List ℕ) → s ≡ s′ → Solved s n rows lent solution → Solved s′ n rows lent solution
+solved-as s s′ n rows lent solution e solved = subst (λ m. Solved m n rows lent solution) e solved
 
 -- where letter q + 1 of entry (v,u) stands: v - 1 sequences after the column's start
 entry-index : (k l v u q : ℕ) → 1 ≤ v → (entryNumber k v u - 1) * l + q ≡ before k u * l + ((v - 1) * l + q)
@@ -162,10 +136,8 @@ module _ (g : Group) (ids buffer : List ℕ) (collected : Collected g ids buffer
 
       -- the later columns were taken out of it before
       pub column-done :
-          (rows came : List ℕ) (pulled count : ℕ) → RowsOf t ids rows → Pulled g ids u s came buffer → pulled ≡ pullWorth g ids came u → pulled ≤ columnMost
-          → Solved s (g .l) rows lent solution count → Column g ids u came middle (pulled + count)
-      unfolding columnWorth
-      column-done rows came pulled count r pull worths bound solved =
+          (rows came : List ℕ) → RowsOf t ids rows → Pulled g ids u s came buffer → Solved s (g .l) rows lent solution → Column g ids u came middle
+      column-done rows came r pull solved =
           record {
             same-length = middle-length ∙ pull .same-length;
             solved =
@@ -176,23 +148,5 @@ module _ (g : Group) (ids buffer : List ℕ) (collected : Collected g ids buffer
                 ∙ solved .parts v p lv hv lp hp
                 ∙ lent-entry v p lv hv
                 ∙ pull .here v p lv hv lp hp;
-            kept = λ v x p lx hx ne lv hv. other-kept v x p lx hx ne lv hv;
-            counted =
-                add-comm pulled count
-                ∙ ap₂ _+_
-                (solved .counted
-                ∙ charted-additions t ids rows r (g .k) (ranks g (g .k) ids (collected .chosen) (omega arith)) s (omega arith) (omega arith) (g .l) (sequence 0 solution (g .l))
-                ∙ additions-same s (g .l) (shifts ids) (shifts ids) (sequence 0 solution (g .l)) (λ a. standing g middle a u) (λ b a lb hb la ha. refl)
-                (λ a p la ha. sym (middle-own a p la ha)))
-                (worths ∙ sym (same-worth g ids u came middle (λ x p low past hx. other-kept u x p (omega arith) hx (λ e. omega arith) lu (omega arith))));
-            bound =
-                omega (
-                  arith,
-                  solved .counted,
-                  additions-bound s (g .l) (shiftIn rows) (sequence 0 solution (g .l)),
-                  mul-le-mul {n₁ = s} {m₁ = g .l * s} {n₂ = 16} {m₂ = entryMost} (omega arith) (mul-le-mul {n₁ = g .l} {m₁ = s} {n₂ = longest} {m₂ = 16} (omega arith) (omega arith)),
-                );
+            kept = λ v x p lx hx ne lv hv. middle-other v x p lx ne lv hv ∙ pull .there v x p lx hx lv hv (λ e. absurd (ne e));
           }
-        where
-          other-kept : (v x p : ℕ) → 1 ≤ x → x ≤ g .d → (x ≡ u → ⊥) → 1 ≤ v → v ≤ min x (g .k) → standing g middle v x p ≡ standing g came v x p
-          other-kept v x p lx hx ne lv hv = middle-other v x p lx ne lv hv ∙ pull .there v x p lx hx lv hv (λ e. absurd (ne e))

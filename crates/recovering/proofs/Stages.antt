@@ -3,23 +3,18 @@ use mathlib.Core.Path.{_≡_, refl, sym, ap, ap₂, subst, _∙_}
 use mathlib.Core.List.{List}
 use mathlib.Core.Logic.{⊎-elim}
 use Prim.Native.Nat.{ℕ, _+_, _-_, _≤_, min}
-use native.Mathlib.Nat.{add-comm, zero-add}
 use native.Mathlib.Omega.{arith}
 use lib.Bits.{bitXor}
-use Rattle.letters.specs.Algebra.{bytes, xors, counts, sum}
+use Rattle.letters.specs.Algebra.{bytes, xors}
 use Rattle.letters.proofs.Cases.{le-or-lt, eq-or-ne}
-use Rattle.letters.proofs.Sums.{sum-same, sum-none, sum-none-terms, plus-twice}
+use Rattle.letters.proofs.Sums.{sum-none, plus-twice}
 use Rattle.system.proofs.System.{part-same}
 use Rattle.group.specs.declared.Group.{Group}
 use Rattle.matrix.specs.Matrix.{matrix}
 use Rattle.matrix.specs.Pieces.{pieceLetter, reading}
-use Rattle.matrix.specs.Counts.{recoveryCount}
-use Rattle.recovering.proofs.ColumnCounts.{columns-count}
 use Rattle.columns.specs.Steps.Columns.{standing, seenAt, fromColumn, fromNext, Collected}
-use Rattle.columns.proofs.MoreSums.{sum-first}
-use Rattle.columns.proofs.Pulling.{same-next, same-worth}
-use Rattle.recovering.specs.Steps.Recovery.{columnWorth, Column, Stage}
-use Rattle.sequences.proofs.Charted.{additions-same}
+use Rattle.columns.proofs.Pulling.{same-next}
+use Rattle.recovering.specs.Steps.Recovery.{Column, Stage}
 use Rattle.matrix.proofs.Files.{is-asFile}
 use Rattle.matrix.proofs.Product.{corner, free}
 use Rattle.matrix.proofs.Reading.{shifts, later, piece-apart, later-corner, later-entries}
@@ -55,49 +50,20 @@ module _ (g : Group) (ids : List ℕ) where
       ∙ sym (later-next f′ v x p))
       ∙ sym (piece-apart xors g f′ ids v x p hx)
 
-  worth-alike : (f f′ : List ℕ) (x : ℕ) → Alike f f′ x → 1 ≤ x → x ≤ g .d → columnWorth g ids f x ≡ columnWorth g ids f′ x
-  unfolding columnWorth
-  worth-alike f f′ x same lx hx =
-      ap₂ _+_
-      (additions-same (min x (g .k)) (g .l) (shifts ids) (shifts ids) (λ a. standing g f a x) (λ a. standing g f′ a x) (λ b a lb hb la ha. refl)
-      (λ a p la ha. same a x p (omega arith) hx la ha))
-      (same-worth g ids x f′ f (λ u q low past hu. same x u q (omega arith) hu lx (omega arith)))
-
-  pub stage-start : (start : List ℕ) → Stage g ids (g .d) start start 0
+  pub stage-start : (start : List ℕ) → Stage g ids (g .d) start start
   stage-start start =
       record {
         same-length = refl;
         done = λ x v p past hx lv hv lp hp. absurd (omega arith);
         waiting = λ x v p lx hx lv hv. refl;
-        counted =
-            sym (ap (λ n. sum counts n (λ j. columnWorth g ids start (g .d + j))) none ∙ sum-none-terms counts (λ j. columnWorth g ids start (g .d + j)));
       }
-    where
-      none : g .d - g .d ≡ 0
-      none = omega arith
 
   -- what one column more takes: u - 1 columns are left
-  module _ (u : ℕ) (lu : 1 ≤ u) (hu : u ≤ g .d) (start mid after : List ℕ) (count more : ℕ) (stage : Stage g ids u start mid count)
-      (column : Column g ids u mid after more) where
+  module _ (u : ℕ) (lu : 1 ≤ u) (hu : u ≤ g .d) (start mid after : List ℕ) (stage : Stage g ids u start mid)
+      (column : Column g ids u mid after) where
     -- the later columns are as they were
     later-kept : Alike after mid (u + 1)
     later-kept v y p ly hy lv hv = column .kept v y p (omega arith) hy (λ e. omega arith) lv hv
-
-    -- the columns from u on, by their first
-    worth-from : (f : ℕ → ℕ) → sum counts (g .d - (u - 1)) (λ j. f (u - 1 + j)) ≡ f u + sum counts (g .d - u) (λ j. f (u + j))
-    worth-from f =
-        ap (λ n. sum counts n (λ j. f (u - 1 + j))) size
-        ∙ sum-first counts (g .d - u) (λ j. f (u - 1 + j))
-        ∙ ap₂ _+_ (ap f one) (sum-same counts (g .d - u) (λ i. f (u - 1 + (1 + i))) (λ j. f (u + j)) (λ i lo hi. ap f (next i)))
-      where
-        size : g .d - (u - 1) ≡ 1 + (g .d - u)
-        size = omega arith
-
-        one : u - 1 + 1 ≡ u
-        one = omega arith
-
-        next : (i : ℕ) → u - 1 + (1 + i) ≡ u + i
-        next i = omega arith
 
     -- the column itself has its pieces now
     own-done : (v p : ℕ) → 1 ≤ v → v ≤ min u (g .k) → 1 ≤ p → p ≤ g .l → pieceLetter xors g after ids v u p ≡ standing g start v u p
@@ -111,7 +77,7 @@ module _ (g : Group) (ids : List ℕ) where
         (later-next after v u p ∙ same-next g ids u mid after (λ y q low past hy. later-kept u y q (omega arith) hy lu (omega arith)) v p)
         ∙ plus-twice bytes (standing g start v u p) (fromNext g ids mid u v (g .d - u) p)
 
-    pub stage-next : Stage g ids (u - 1) start after (count + more)
+    pub stage-next : Stage g ids (u - 1) start after
     stage-next =
         record {
           same-length = column .same-length ∙ stage .same-length;
@@ -125,30 +91,12 @@ module _ (g : Group) (ids : List ℕ) where
               ∙ stage .done x v p (omega arith) hx lv hv lp hp)
               (eq-or-ne x u);
           waiting = λ x v p lx hx lv hv. column .kept v x p lx (omega arith) (λ e. omega arith) lv hv ∙ stage .waiting x v p lx (omega arith) lv hv;
-          counted =
-              ap₂ _+_
-              (stage .counted
-              ∙ sum-same counts (g .d - u) (λ j. columnWorth g ids mid (u + j)) (λ j. columnWorth g ids after (u + j))
-              (λ j lo hi. sym (worth-alike after mid (u + j) (λ w y q ly hy lw hw. later-kept w y q (omega arith) hy lw hw) (omega arith) (omega arith))))
-              (column .counted)
-              ∙ add-comm (sum counts (g .d - u) (λ j. columnWorth g ids after (u + j))) (columnWorth g ids after u)
-              ∙ sym (worth-from (λ y. columnWorth g ids after y));
         }
 
   -- all columns are done: the buffer is the one file that has the pieces
-  pub stage-end :
-      (start after : List ℕ) (count : ℕ) → Collected g ids start → Stage g ids 0 start after count
-      → (reading xors g after ids ≡ start) × (count ≡ recoveryCount g ids after)
+  pub stage-end : (start after : List ℕ) → Collected g ids start → Stage g ids 0 start after → reading xors g after ids ≡ start
   unfolding reading
-  stage-end start after count collected stage = (
-    sym
-        (is-asFile 0 g (collected .chosen .group) (pieceLetter xors g after ids) start (collected .long)
-        (λ u v p lu hu lv hv lp hp. sym (stage .done u v p lu hu lv hv lp hp))),
-    stage .counted
-        ∙ ap (λ n. sum counts n (λ j. columnWorth g ids after (0 + j))) all
-        ∙ sum-same counts (g .d) (λ j. columnWorth g ids after (0 + j)) (λ u. columnWorth g ids after u) (λ u lo hi. ap (columnWorth g ids after) (zero-add u))
-        ∙ columns-count g ids after (collected .chosen),
-  )
-    where
-      all : g .d - 0 ≡ g .d
-      all = omega arith
+  stage-end start after collected stage =
+      sym
+      (is-asFile 0 g (collected .chosen .group) (pieceLetter xors g after ids) start (collected .long)
+      (λ u v p lu hu lv hv lp hp. sym (stage .done u v p lu hu lv hv lp hp)))

@@ -16,7 +16,8 @@ ghost use Rattle.columns.specs.Steps.Columns.{Collected};
 ghost use Rattle.recovering.specs.Steps.Recovery.{Column, Stage};
 
 // Turns the pieces in `buffer`, laid out as the file, into the file, in place: the one file that has those pieces, for any letters whatever.
-// The answer is the number of letter additions. Refusals: 1, 2, 3 for an id outside 1..n or another number of ids than k,
+// The answer is how many letters that aren't zero it takes to add: the terms of document 01's sums whose letter isn't zero in the file that comes out.
+// Refusals: 1, 2, 3 for an id outside 1..n or another number of ids than k,
 // 4 for ids that don't fall strictly, 5 for a buffer of another length than B*L. A refused call leaves `buffer` as it was.
 pub fn recover(g: Group, ids: &[usize], buffer: &mut [u8]) -> Answer
     ensures { λ r. ⌜ Recovered g (now (ids .entry)) (now (buffer .entry)) (now (buffer .exit)) r ⌝ }
@@ -47,31 +48,30 @@ fn recover_exact(g: Group, ids: &[usize], buffer: &mut [u8]) -> Answer
         return Answer::Refused(Refusal::Input);
     }
     let rows = rows::shift_rows(ids);
-    Answer::Value(recover_columns(g, ids, &rows, buffer))
+    recover_columns(g, ids, &rows, buffer);
+    Answer::Value(file_count::of_file(g, ids, &rows, buffer))
 }
 
 // The columns from the last one down: the later ones, solved by then, are taken out of each, and it is solved where it lies.
-fn recover_columns(g: Group, ids: &[usize], rows: &[usize], buffer: &mut [u8]) -> usize
+fn recover_columns(g: Group, ids: &[usize], rows: &[usize], buffer: &mut [u8])
     requires { ⌜ (Collected g (now ids) (now buffer)) × (RowsOf t (now ids) (now rows)) ⌝ }
-    ensures { λ r. ⌜ Stage g (now (ids .entry)) 0 (now (buffer .entry)) (now (buffer .exit)) r ⌝ }
+    ensures { λ _. ⌜ Stage g (now (ids .entry)) 0 (now (buffer .entry)) (now (buffer .exit)) ⌝ }
 {
-    let mut count: usize = 0;
     let mut u = g.d;
     while 0 < u {
-        count += recover_column(g, ids, rows, u, buffer);
+        recover_column(g, ids, rows, u, buffer);
         u -= 1;
     }
-    count
 }
 
 // Column `u`: its min(u,k) sequences are one part of the buffer.
-fn recover_column(g: Group, ids: &[usize], rows: &[usize], u: usize, buffer: &mut [u8]) -> usize
+fn recover_column(g: Group, ids: &[usize], rows: &[usize], u: usize, buffer: &mut [u8])
     requires { ⌜ (Collected g (now ids) (now buffer)) × (RowsOf t (now ids) (now rows)) × (1 ≤ u) × (u ≤ g .d) ⌝ }
-    ensures { λ r. ⌜ Column g (now (ids .entry)) u (now (buffer .entry)) (now (buffer .exit)) r ⌝ }
+    ensures { λ _. ⌜ Column g (now (ids .entry)) u (now (buffer .entry)) (now (buffer .exit)) ⌝ }
 {
     let s = letters::lesser(u, g.k);
     let start = entries::sequences_before(g.k, u) * g.l;
     let end = start + s * g.l;
-    let pulled = columns::pull_column(g, ids, rows, u, buffer);
-    pulled + solving::solve(&mut buffer[start..end], s, g.l, rows)
+    columns::pull_column(g, ids, rows, u, buffer);
+    solving::solve(&mut buffer[start..end], s, g.l, rows);
 }

@@ -4,35 +4,19 @@ use mathlib.Core.List.{List}
 use Prim.Native.Nat.{ℕ, _+_, _-_, _*_, _/_, _%_, _^_, _≤_}
 use native.Mathlib.Omega.{arith}
 use lib.ListN.{length, getD}
-use Rattle.letters.specs.Algebra.{xors, counts, sum}
-use Rattle.letters.specs.Worth.{worthOf}
-use Rattle.letters.proofs.Sums.{sum-same}
+use Rattle.letters.specs.Algebra.{xors}
 use Rattle.shifts.specs.Rule.{ShiftRule, Refined}
 use Rattle.system.specs.System.{part, sequence}
 use Rattle.system.specs.Order.{Falling, ruled}
-use Rattle.system.specs.Count.{taken, ofEquation, additions, other, within}
+use Rattle.system.specs.Count.{additions}
 use Rattle.equation.specs.Rows.{shiftIn, Solvable}
 use Rattle.equation.proofs.Ruled.{ruled-solvable}
 use Rattle.system.proofs.System.{part-shifts}
+use Rattle.system.proofs.Terms.{additions-same}
 use Rattle.sequences.specs.Lists.{ranked}
 use Rattle.sequences.specs.Parts.{partsOf}
 use Rattle.sequences.specs.Steps.Rows.{RowsOf}
 use Rattle.sequences.proofs.Parts.{is-parts}
-
--- the worth of the additions reads the shifts and the sequences of the ranks 1..s alone
-pub additions-same :
-    (s n : ℕ) (u u′ : ℕ → ℕ → ℕ) (x x′ : ℕ → ℕ → ℕ) → ((b a : ℕ) → 1 ≤ b → b ≤ s → 1 ≤ a → a ≤ s → u b a ≡ u′ b a)
-    → ((a p : ℕ) → 1 ≤ a → a ≤ s → x a p ≡ x′ a p) → additions s n u x ≡ additions s n u′ x′
-unfolding additions ofEquation taken
-additions-same s n u u′ x x′ eu ex =
-    sum-same counts s (λ b. sum counts n (λ p. ofEquation s n u x b p)) (λ b. sum counts n (λ p. ofEquation s n u′ x′ b p))
-    (λ b lb hb.
-    sum-same counts n (λ p. ofEquation s n u x b p) (λ p. ofEquation s n u′ x′ b p)
-    (λ p lp hp.
-    sum-same counts s (λ a. taken n u x b p a) (λ a. taken n u′ x′ b p a)
-    (λ a la ha.
-    ap (λ q. other a b (within n q (worthOf (x a q)))) (ap₂ (λ m k. (p + m) - k) (eu b b lb hb lb hb) (eu b a lb hb la ha))
-    ∙ ap (λ z. other a b (within n ((p + u′ b b) - u′ b a) (worthOf z))) (ex a ((p + u′ b b) - u′ b a) la ha))))
 
 -- So many ids that the solver can take under a rule: they count from 1 and fall, and their shifts are small.
 pub record Ranks (rule : ShiftRule) (wanted : ℕ) (ids : List ℕ) : Type 0 where

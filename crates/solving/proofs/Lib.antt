@@ -1,4 +1,4 @@
 -- Why the solver keeps its contract.
-pub mod Counted
+pub mod ByRank
 pub mod Outcome
 pub mod Tiles

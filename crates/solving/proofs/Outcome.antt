@@ -1,4 +1,4 @@
--- The solver's statement allows one outcome: what it leaves has parts that are given, so by the solving fact its letters are given too, and with them the count.
+-- The solver's statement allows one outcome: what it leaves has parts that are given, so by the solving fact its letters are given too.
 use mathlib.Core.Path.{_≡_, sym, ap, _∙_}
 use mathlib.Core.List.{List}
 use Prim.Native.Nat.{ℕ, _+_, _-_, _*_, _/_, _%_, _≤_, _<_}
@@ -8,7 +8,6 @@ use lib.ListN.{length, getD}
 use lib.Seq.{ext-getD}
 use Rattle.letters.specs.Algebra.{bytes}
 use Rattle.system.specs.System.{sequence}
-use Rattle.system.specs.Count.{additions}
 use Rattle.equation.specs.Rows.{shiftIn, Solvable}
 use Rattle.solving.specs.Solver.{Solved}
 use Rattle.system.proofs.OneSolution.{one-solution}
@@ -36,12 +35,10 @@ buffer-same s n xs ys some lx ly same =
         ∙ ap (λ j. getD zs j 0) (index i))
 
 pub one-outcome :
-    (s n : ℕ) (rows before after after′ : List ℕ) (count count′ : ℕ) → Solvable s n rows → length before ≡ s * n
-    → Solved s n rows before after count → Solved s n rows before after′ count′ → (after ≡ after′) × (count ≡ count′)
-one-outcome s n rows before after after′ count count′ solvable long one two =
-    let same =
+    (s n : ℕ) (rows before after after′ : List ℕ) → Solvable s n rows → length before ≡ s * n
+    → Solved s n rows before after → Solved s n rows before after′ → after ≡ after′
+one-outcome s n rows before after after′ solvable long one two =
     buffer-same s n after after′ (solvable .some-letters) (one .same-length ∙ long) (two .same-length ∙ long)
     (λ a p la ha.
     one-solution bytes s n (shiftIn rows) (solvable .ordered) (sequence 0 after n) (sequence 0 after′ n) (sequences 0 after n)
-    (sequences 0 after′ n) (λ b p lb hb lp hp. one .parts b p lb hb lp hp ∙ sym (two .parts b p lb hb lp hp)) a p la ha) in
-    (same, one .counted ∙ ap (λ xs. additions s n (shiftIn rows) (sequence 0 xs n)) same ∙ sym (two .counted))
+    (sequences 0 after′ n) (λ b p lb hb lp hp. one .parts b p lb hb lp hp ∙ sym (two .parts b p lb hb lp hp)) a p la ha)

@@ -1,6 +1,5 @@
 // The solver of a system of shifted sums: s pieces of n letters are turned, where they lie, into the s sequences that they are sums of. It goes by tiles: rounds in which the same
 // ranks have a letter, whose runs are solved as wholes.
-mod counting;
 mod tables;
 
 ghost use mathlib.Core.Path.{_≡_};
@@ -8,24 +7,32 @@ ghost use Prim.Native.Nat.{ℕ, _+_, _*_, _^_, _≤_, _<_};
 ghost use lib.ListN.{length, getD};
 ghost use Rattle.equation.specs.Rows.{shiftIn, Solvable};
 ghost use Rattle.tiles.specs.Tile.{Tile};
-ghost use Rattle.solving.specs.Solver.{Solved};
-ghost use Rattle.solving.specs.Steps.Tiles.{TablesOf, SolvedParts, Onward, Begun, Ended, Cut};
+ghost use Rattle.solving.specs.Solver.{Solved, SolvedCounted};
+ghost use Rattle.solving.specs.Steps.Tiles.{TablesOf, Onward, Begun, Ended, Cut};
 
 // The most rounds of a tile, so that its runs stay near the processor however long the sequences are.
 const LONGEST: usize = 2048;
 
 // Solves the system of `s` equations over `s` sequences of `n` letters each. `part` holds the s pieces one after another and is left with
 // the s sequences in their place; `rows` has the shift of the node of rank b at column a at index (b - 1) * 16 + (a - 1).
-// The answer is the number of letter additions.
-pub fn solve(part: &mut [u8], s: usize, n: usize, rows: &[usize]) -> usize
+pub fn solve(part: &mut [u8], s: usize, n: usize, rows: &[usize])
     requires system { ⌜ Solvable s n (now rows) ⌝ }
     requires letters { ⌜ length (now part) ≡ s * n ⌝ }
-    ensures { λ r. ⌜ Solved s n (now (rows .entry)) (now (part .entry)) (now (part .exit)) r ⌝ }
+    ensures { λ _. ⌜ Solved s n (now (rows .entry)) (now (part .entry)) (now (part .exit)) ⌝ }
 {
     let exps = tables::exponents(s, rows);
     let delays = tables::delays(s, &exps);
     solve_tiles(part, s, n, rows, &exps, &delays);
-    counting::count(s, n, rows)
+}
+
+// The same. The answer is how many of the system's terms have a letter that isn't zero, in the sequences that came out (docs/SCHEME.md, 8).
+pub fn solve_counted(part: &mut [u8], s: usize, n: usize, rows: &[usize]) -> usize
+    requires system { ⌜ Solvable s n (now rows) ⌝ }
+    requires letters { ⌜ length (now part) ≡ s * n ⌝ }
+    ensures { λ r. ⌜ SolvedCounted s n (now (rows .entry)) (now (part .entry)) (now (part .exit)) r ⌝ }
+{
+    solve(part, s, n, rows);
+    counting::of_solving(part, s, n, rows)
 }
 
 // The tiles, one after another, until all rounds are done.
@@ -39,7 +46,7 @@ fn solve_tiles(
 )
     requires system { ⌜ (Solvable s n (now rows)) × (TablesOf s (now rows) (now exps) (now delays)) ⌝ }
     requires letters { ⌜ length (now part) ≡ s * n ⌝ }
-    ensures { λ _. ⌜ SolvedParts s n (now (rows .entry)) (now (part .entry)) (now (part .exit)) ⌝ }
+    ensures { λ _. ⌜ Solved s n (now (rows .entry)) (now (part .entry)) (now (part .exit)) ⌝ }
 {
     let rounds = n + delays[s - 1];
     let mut hi = 0;

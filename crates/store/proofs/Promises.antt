@@ -11,26 +11,27 @@ use borrow.Author.Tests.{eqb-true}
 use denote.Ref.{now}
 use Rattle.letters.specs.Algebra.{bytes, xors}
 use Rattle.letters.specs.Runs.{xored}
+use Rattle.worth.specs.Worth.{NoZero}
 use Rattle.group.specs.declared.Group.{Group}
 use Rattle.group.specs.declared.Answer.{Answer}
 use Rattle.group.specs.Answers.{refusalNumber, Outcome, numberOf, valueOf}
 use Rattle.group.specs.Ranges.{NodeOf}
 use Rattle.lengths.specs.Lengths.{fileLetters, nodeLetters}
 use Rattle.group.proofs.Refusals.{if-fine}
-use Rattle.group.proofs.Called.{fine-number, fine-value, called-fine}
+use Rattle.group.proofs.Called.{fine-number, fine-value, called-fine, answer-at-most}
 use Rattle.sequences.specs.Lists.{run, joined, ranked}
 use Rattle.sequences.proofs.Lists.{length-run, joined-same}
 use Rattle.sequences.proofs.Sequences.{placed-run}
 use Rattle.matrix.specs.Matrix.{entryNumber, packets, Free}
 use Rattle.matrix.specs.Pieces.{pieceIn, pieceLetter, piece, reading, Chosen}
 use Rattle.matrix.specs.Repair.{helping, equations}
-use Rattle.matrix.specs.Counts.{recoveryCost, repairCost}
+use Rattle.matrix.specs.Counts.{recoveryCount, repairCount, recoveryCost, repairCost}
 use Rattle.matrix.proofs.Files.{is-asFile}
 use Rattle.matrix.proofs.Product.{length-packets}
 use Rattle.matrix.proofs.Linear.{packets-linear}
 use Rattle.matrix.proofs.Theorems.{reading-once, piece-handed}
 use Rattle.matrix.proofs.Rebuilt.{rebuilds, same-buffer}
-use Rattle.matrix.proofs.CostSums.{recovery-cost, repair-cost}
+use Rattle.matrix.proofs.CostSums.{recovery-at-most, recovery-all, repair-at-most, repair-all}
 use Rattle.group.specs.declared.Refusal.the-variants.{Unfinished}
 use Rattle.nodes.specs.Calls.{Encoded}
 use Rattle.sending.specs.Calls.{pieceRefusal, entryRefusal}
@@ -38,6 +39,7 @@ use Rattle.helpers.specs.Calls.{Helped}
 use Rattle.sending.proofs.Called.{of-piece, of-entry}
 use Rattle.recovering.specs.Calls.{readersRefusal, Recovered}
 use Rattle.recovering.proofs.RecoverCalls.{readers-of, recover-of, of-recover}
+use Rattle.rebuilding.specs.Calls.{Repaired}
 use Rattle.rebuilding.proofs.RepairCalls.{repair-of}
 use Rattle.letters.specs.Lanes.{Bytes}
 use Rattle.layout.specs.Share.{ShareOf}
@@ -147,23 +149,33 @@ module _ (g : Group) (ids : List ℕ) (chosen : Chosen g (g .k) ids) where
         (λ u v p lu hu lv hv lp hp.
         placed-run 0 buffer (g .l) (entryNumber (g .k) v u) (pieceLetter xors g file ids v u) (laid v u lv (omega arith) (omega arith) hu) p lp hp)
 
--- read, then recover: the buffer at exit is the file, and the answer is the sum of document 01 (docs/SCHEME.md, 8)
+-- read, then recover: the buffer at exit is the file, and the answer is the number of terms of document 01's sums whose letter of the file isn't zero (docs/SCHEME.md, 8)
 pub read-then-recover :
     (g : Group) (ids file : List ℕ) (held : ℕ → List ℕ) (buffer after : List ℕ) (r : Answer) → readersRefusal g ids ≡ 0
     → length file ≡ fileLetters g → ((v : ℕ) → 1 ≤ v → v ≤ g .k → held v ≡ packets xors g file (ranked ids v))
     → Collects g ids held buffer → Recovered g ids buffer after r
-    → (numberOf r ≡ 0) × (valueOf r ≡ recoveryCost g ids) × (after ≡ file)
+    → (numberOf r ≡ 0) × (valueOf r ≡ recoveryCount g ids file) × (after ≡ file)
 read-then-recover g ids file held buffer after r allowed long honest c rec =
     let chosen = readers-of g ids allowed .chosen in
     let fine = of-recover g ids (length buffer) allowed (c .long) in
-    let z = rec .answer .number ∙ fine in (
-      z,
-      fine-value r _ _ (rec .answer) z ∙ recovery-cost g ids after chosen,
-      reading-once bytes g ids chosen after file (rec .same-length ∙ c .long) long
-          (sym (if-fine _ (reading xors g after ids) after fine)
-          ∙ rec .holds
-          ∙ collected-reading g ids chosen file held honest buffer c),
-    )
+    let z = rec .answer .number ∙ fine in
+    let same =
+    reading-once bytes g ids chosen after file (rec .same-length ∙ c .long) long
+    (sym (if-fine _ (reading xors g after ids) after fine)
+    ∙ rec .holds
+    ∙ collected-reading g ids chosen file held honest buffer c) in
+    (z, fine-value r _ _ (rec .answer) z ∙ ap (recoveryCount g ids) same, same)
+
+-- the answer of a recovery is never more than document 01's sum, whatever letters come in, and that sum if no letter of the file that comes out is zero
+pub recover-never-more : (g : Group) (ids before after : List ℕ) (r : Answer) → Recovered g ids before after r → valueOf r ≤ recoveryCost g ids
+recover-never-more g ids before after r rec =
+    answer-at-most r _ _ _ (rec .answer) (λ fine. recovery-at-most g ids after (recover-of g ids (length before) fine .0 .chosen))
+
+pub recover-every :
+    (g : Group) (ids before after : List ℕ) (r : Answer) → Recovered g ids before after r → numberOf r ≡ 0 → NoZero after → valueOf r ≡ recoveryCost g ids
+recover-every g ids before after r rec z some =
+    let w = recover-of g ids (length before) (fine-number r _ _ (rec .answer) z) in
+    fine-value r _ _ (rec .answer) z ∙ recovery-all g ids after (w .0 .chosen) (rec .same-length ∙ w .1) some
 
 -- recover, then read: the pieces that were there
 pub recover-then-read :
@@ -187,23 +199,35 @@ encode-xored g node file file′ room room′ room″ held held′ held″ r r�
 
 -- ---- demand 3: any d nodes rebuild a lost one
 
--- d nodes that hold the file's packets, help of each, then repair: the buffer at exit is the lost node's packets, and the answer is the sum of document 01 (docs/SCHEME.md, 8)
+-- d nodes that hold the file's packets, help of each, then repair: the buffer at exit is the lost node's packets, and the answer is the number of terms of document 01's sum whose letter of those isn't zero (docs/SCHEME.md, 8)
 pub help-then-repair :
     (g : Group) (f : ℕ) (helpers file : List ℕ) (held : ℕ → List ℕ) (after : List ℕ) (r : Answer)
     → ((u : ℕ) → 1 ≤ u → u ≤ g .d → held u ≡ packets xors g file (ranked helpers u)) → Rebuilds g f helpers held after r
-    → (valueOf r ≡ repairCost g f helpers) × (after ≡ packets xors g file f)
+    → (valueOf r ≡ repairCount g f helpers (packets xors g file f)) × (after ≡ packets xors g file f)
 help-then-repair g f helpers file held after r honest c =
     let fine = fine-number r _ _ (c .repaired .answer) (c .not-refused) in
-    let w = repair-of g f helpers (length (joined (g .d) (c .piece))) fine in (
-      fine-value r _ _ (c .repaired .answer) (c .not-refused) ∙ repair-cost g f helpers after,
-      rebuilds bytes g f helpers (w .0 .chosen) file after (w .0 .node) (c .repaired .same-length ∙ w .1 ∙ same-buffer g f)
-          (sym (if-fine _ (equations xors g f helpers after) after fine)
-          ∙ c .repaired .holds
-          ∙ joined-same (g .d) (c .piece) (λ u. helping xors g f (ranked helpers u) u (packets xors g file (ranked helpers u)))
-          (λ u lo hi.
-          helped-piece g f (ranked helpers u) u (held u) (c .room u) (c .piece u) (c .answer u) (c .helped u lo hi) (c .none-refused u lo hi)
-          ∙ ap (helping xors g f (ranked helpers u) u) (honest u lo hi))),
-    )
+    let w = repair-of g f helpers (length (joined (g .d) (c .piece))) fine in
+    let same =
+    rebuilds bytes g f helpers (w .0 .chosen) file after (w .0 .node) (c .repaired .same-length ∙ w .1 ∙ same-buffer g f)
+    (sym (if-fine _ (equations xors g f helpers after) after fine)
+    ∙ c .repaired .holds
+    ∙ joined-same (g .d) (c .piece) (λ u. helping xors g f (ranked helpers u) u (packets xors g file (ranked helpers u)))
+    (λ u lo hi.
+    helped-piece g f (ranked helpers u) u (held u) (c .room u) (c .piece u) (c .answer u) (c .helped u lo hi) (c .none-refused u lo hi)
+    ∙ ap (helping xors g f (ranked helpers u) u) (honest u lo hi))) in
+    (fine-value r _ _ (c .repaired .answer) (c .not-refused) ∙ ap (repairCount g f helpers) same, same)
+
+-- the answer of a repair is never more than document 01's sum, whatever letters come in, and that sum if no letter of the packets that come out is zero
+pub repair-never-more :
+    (g : Group) (f : ℕ) (helpers before after : List ℕ) (r : Answer) → Repaired g f helpers before after r → valueOf r ≤ repairCost g f helpers
+repair-never-more g f helpers before after r rep = answer-at-most r _ _ _ (rep .answer) (λ fine. repair-at-most g f helpers after)
+
+pub repair-every :
+    (g : Group) (f : ℕ) (helpers before after : List ℕ) (r : Answer) → Repaired g f helpers before after r → numberOf r ≡ 0 → NoZero after
+    → valueOf r ≡ repairCost g f helpers
+repair-every g f helpers before after r rep z some =
+    let w = repair-of g f helpers (length before) (fine-number r _ _ (rep .answer) z) in
+    fine-value r _ _ (rep .answer) z ∙ repair-all g f helpers after (rep .same-length ∙ w .1 ∙ same-buffer g f) some
 
 -- ---- demand 3: any chain of losses and repairs
 

@@ -1,16 +1,22 @@
--- The additions are the cost of document 01 (docs/SCHEME.md, 8): for two ranks, the equations whose letter lies inside 1..n are all but as many as the two shifts lie apart.
-use mathlib.Core.Path.{_≡_, refl, ap, _∙_}
+-- The terms whose letter isn't zero are never more than document 01's sum (docs/SCHEME.md, 8), and as many where no letter is zero: for two ranks, the equations whose letter lies inside 1..n are all but as many as the two shifts lie apart.
+use mathlib.Core.Path.{_≡_, sym, ap, _∙_}
 use mathlib.Core.Bool.{Bool, true, false, cond}
+use mathlib.Core.List.{List}
 use mathlib.Core.Logic.{⊎-elim}
-use Prim.Native.Nat.{ℕ, zero, suc, _+_, _-_, _≤_, _<_}
+use Prim.Native.Nat.{ℕ, zero, suc, _+_, _-_, _*_, _≤_, _<_}
 use native.Mathlib.Omega.{arith}
 use lib.Dec.{eqb}
+use lib.ListN.{length}
 use Rattle.letters.specs.Algebra.{counts, sum}
-use Rattle.letters.specs.Worth.{worthOf}
+use Rattle.letters.specs.Places.{inside}
 use Rattle.letters.proofs.Cases.{le-or-lt}
-use Rattle.letters.proofs.Sums.{sum-same, sum-none, sum-swap}
+use Rattle.letters.proofs.Sums.{sum-same, sum-below}
+use Rattle.worth.specs.Worth.{worthOf, NoZero}
+use Rattle.worth.proofs.Worth.{worthOf-at-most, worthOf-one}
 use Rattle.system.proofs.Within.{within-inside, within-below, within-above}
-use Rattle.system.specs.Count.{taken, ofEquation, additions, pairs, cost, place, other, within, distance}
+use Rattle.system.proofs.System.{sequence-inside, index-below}
+use Rattle.system.specs.System.{sequence}
+use Rattle.system.specs.Count.{terms, additions, cost, place, other, within, distance}
 
 -- Of the first m of 1..n, moved right by c, those lie inside that are not pushed out above n,
 moved-right : (n c m : ℕ) → m ≤ n → sum counts m (λ p. within n (p + c) 1) ≡ m - ((m + c) - n)
@@ -48,28 +54,67 @@ moved-inside n d e =
     left : (p : ℕ) → d < e → (p + d) - e ≡ p - (e - d)
     left p h = omega arith
 
--- a sum of what holds of the other ranks
-sum-other : (n : ℕ) (c : Bool) (f : ℕ → ℕ) → sum counts n (λ p. cond c 0 (f p)) ≡ cond c 0 (sum counts n f)
-sum-other n true f = sum-none counts n (λ p. 0) (λ i lo hi. refl)
-sum-other n false f = refl
+-- what counts of a place inside, and of the other ranks
+within-most : (n p m k : ℕ) → m ≤ k → within n p m ≤ within n p k
+within-most n p m k h = either (inside n p)
+  where
+    either : (c : Bool) → cond c m 0 ≤ cond c k 0
+    either true = h
+    either false = omega arith
 
-pub pairs-cost : (s n : ℕ) (t : ℕ → ℕ → ℕ) → pairs s n t ≡ cost s n t
-unfolding pairs cost
-pairs-cost s n t =
-    sum-same counts s (λ b. sum counts n (λ p. sum counts s (λ a. other a b (within n (place t b p a) 1))))
-    (λ b. sum counts s (λ a. other a b (n - distance (t b a) (t b b))))
-    (λ b lo hi.
-    sum-swap counts n s (λ p a. other a b (within n (place t b p a) 1))
-    ∙ sum-same counts s (λ a. sum counts n (λ p. other a b (within n (place t b p a) 1)))
-    (λ a. other a b (n - distance (t b a) (t b b)))
-    (λ a l h.
-    sum-other n (eqb a b) (λ p. within n (place t b p a) 1)
-    ∙ ap (λ m. other a b m) (moved-inside n (t b b) (t b a))))
+other-most : (a b m k : ℕ) → m ≤ k → other a b m ≤ other a b k
+other-most a b m k h = either (eqb a b)
+  where
+    either : (c : Bool) → cond c 0 m ≤ cond c 0 k
+    either true = omega arith
+    either false = h
 
--- Today each addition is worth one, so that the additions are the pairs, whatever the letters.
-pub additions-pairs : (s n : ℕ) (t x : ℕ → ℕ → ℕ) → additions s n t x ≡ pairs s n t
-unfolding additions ofEquation taken pairs worthOf
-additions-pairs s n t x = refl
+module _ (n : ℕ) (t : ℕ → ℕ → ℕ) (x : ℕ → ℕ) (b a : ℕ) where
+  pub terms-at-most : terms n t x b a ≤ n - distance (t b a) (t b b)
+  unfolding terms
+  terms-at-most =
+      omega (
+        arith,
+        sum-below n (λ p. within n (place t b p a) (worthOf (x (place t b p a)))) (λ p. within n (place t b p a) 1)
+            (λ p lo hi. within-most n (place t b p a) (worthOf (x (place t b p a))) 1 (worthOf-at-most (x (place t b p a)))),
+        moved-inside n (t b b) (t b a),
+      )
 
-pub additions-cost : (s n : ℕ) (t x : ℕ → ℕ → ℕ) → additions s n t x ≡ cost s n t
-additions-cost s n t x = additions-pairs s n t x ∙ pairs-cost s n t
+  -- all of them, where no letter of the sequence is zero
+  pub terms-all : ((q : ℕ) → 1 ≤ q → q ≤ n → x q ≡ 0 → ⊥) → terms n t x b a ≡ n - distance (t b a) (t b b)
+  unfolding terms
+  terms-all some =
+      sum-same counts n (λ p. within n (place t b p a) (worthOf (x (place t b p a)))) (λ p. within n (place t b p a) 1)
+      (λ p lo hi. one (place t b p a))
+      ∙ moved-inside n (t b b) (t b a)
+    where
+      one : (q : ℕ) → within n q (worthOf (x q)) ≡ within n q 1
+      one q =
+          ⊎-elim
+          (λ high.
+          ⊎-elim (λ low. ap (λ m. within n q m) (worthOf-one (x q) (some q low high))) (λ none. within-below n q (worthOf (x q)) (omega arith) ∙ sym (within-below n q 1 (omega arith)))
+          (le-or-lt 1 q))
+          (λ past. within-above n q (worthOf (x q)) past ∙ sym (within-above n q 1 past)) (le-or-lt q n)
+
+module _ (s n : ℕ) (t x : ℕ → ℕ → ℕ) where
+  pub additions-at-most : additions s n t x ≤ cost s n t
+  unfolding additions cost
+  additions-at-most =
+      sum-below s (λ b. sum counts s (λ a. other a b (terms n t (x a) b a))) (λ b. sum counts s (λ a. other a b (n - distance (t b a) (t b b))))
+      (λ b lb hb.
+      sum-below s (λ a. other a b (terms n t (x a) b a)) (λ a. other a b (n - distance (t b a) (t b b)))
+      (λ a la ha. other-most a b (terms n t (x a) b a) (n - distance (t b a) (t b b)) (terms-at-most n t (x a) b a)))
+
+  pub additions-all : ((a q : ℕ) → 1 ≤ a → a ≤ s → 1 ≤ q → q ≤ n → x a q ≡ 0 → ⊥) → additions s n t x ≡ cost s n t
+  unfolding additions cost
+  additions-all some =
+      sum-same counts s (λ b. sum counts s (λ a. other a b (terms n t (x a) b a))) (λ b. sum counts s (λ a. other a b (n - distance (t b a) (t b b))))
+      (λ b lb hb.
+      sum-same counts s (λ a. other a b (terms n t (x a) b a)) (λ a. other a b (n - distance (t b a) (t b b)))
+      (λ a la ha. ap (λ m. other a b m) (terms-all n t (x a) b a (λ q lq hq. some a q la ha lq hq))))
+
+-- no letter of s sequences of n letters is zero, if none of the buffer is
+pub sequences-no-zero :
+    (s n : ℕ) (xs : List ℕ) → length xs ≡ s * n → NoZero xs → (a q : ℕ) → 1 ≤ a → a ≤ s → 1 ≤ q → q ≤ n → sequence 0 xs n a q ≡ 0 → ⊥
+sequences-no-zero s n xs long some a q la ha lq hq e =
+    some .each ((a - 1) * n + (q - 1)) (omega (arith, index-below s n a q la ha lq hq)) (sym (sequence-inside 0 xs n a q lq hq) ∙ e)

@@ -5,4 +5,5 @@ pub mod Order
 pub mod Settles
 pub mod SomeSolution
 pub mod System
+pub mod Terms
 pub mod Within

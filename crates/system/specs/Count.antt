@@ -1,12 +1,12 @@
--- What solving costs: the letter additions, counted one by one and as the sum of document 01 (docs/SCHEME.md, 8).
+-- What solving costs (docs/SCHEME.md, 8): the terms of document 01's sum whose letter isn't zero, and all of them.
 use mathlib.Core.Bool.{cond}
 use Prim.Native.Nat.{ℕ, _+_, _-_}
 use lib.Dec.{eqb}
 use Rattle.letters.specs.Algebra.{counts, sum}
 use Rattle.letters.specs.Places.{inside}
-use Rattle.letters.specs.Worth.{worthOf}
+use Rattle.worth.specs.Worth.{worthOf}
 
--- Where equation (b,p) reads in sequence a: 0, which is no place, if the letter was pushed out to the left.
+-- Which letter of sequence a equation (b,p) takes: letter p + t(b,b) - t(b,a), or 0, which is no place, if it was pushed out to the left.
 abbrev pub place : (ℕ → ℕ → ℕ) → ℕ → ℕ → ℕ → ℕ
 place t b p a = (p + t b b) - t b a
 
@@ -18,30 +18,21 @@ other a b m = cond (eqb a b) 0 m
 abbrev pub within : ℕ → ℕ → ℕ → ℕ
 within n p m = cond (inside n p) m 0
 
--- What it is worth that equation (b,p) takes its letter of sequence a: nothing of its own sequence, nor of a letter outside 1..n.
-unfoldable pub taken : ℕ → (ℕ → ℕ → ℕ) → (ℕ → ℕ → ℕ) → ℕ → ℕ → ℕ → ℕ
-taken n t x b p a = other a b (within n (place t b p a) (worthOf (x a (place t b p a))))
+-- How many of the equations (b,1) .. (b,n) take a letter of sequence a that lies inside 1..n and isn't zero, where x are the letters of that sequence in the solution.
+unfoldable pub terms : ℕ → (ℕ → ℕ → ℕ) → (ℕ → ℕ) → ℕ → ℕ → ℕ
+unfolding sum worthOf
+terms n t x b a = sum counts n (λ p. within n (place t b p a) (worthOf (x (place t b p a))))
 
--- The worth of all additions of one equation.
-unfoldable pub ofEquation : ℕ → ℕ → (ℕ → ℕ → ℕ) → (ℕ → ℕ → ℕ) → ℕ → ℕ → ℕ
-unfolding sum taken
-ofEquation s n t x b p = sum counts s (λ a. taken n t x b p a)
-
--- The worth of all additions that solving takes, where x is the solution.
+-- The number of terms of solving whose letter, in the solution x, isn't zero: over the ordered pairs a, b from 1..s with a not b.
 unfoldable pub additions : ℕ → ℕ → (ℕ → ℕ → ℕ) → (ℕ → ℕ → ℕ) → ℕ
-unfolding sum ofEquation
-additions s n t x = sum counts s (λ b. sum counts n (λ p. ofEquation s n t x b p))
-
--- How many pairs of an equation (b,p) and another sequence a there are whose letter lies inside 1..n.
-unfoldable pub pairs : ℕ → ℕ → (ℕ → ℕ → ℕ) → ℕ
-unfolding sum
-pairs s n t = sum counts s (λ b. sum counts n (λ p. sum counts s (λ a. other a b (within n (place t b p a) 1))))
+unfolding sum terms
+additions s n t x = sum counts s (λ b. sum counts s (λ a. other a b (terms n t (x a) b a)))
 
 -- |x - y|
 abbrev pub distance : ℕ → ℕ → ℕ
 distance x y = (x - y) + (y - x)
 
--- The cost of document 01 (docs/SCHEME.md, 8): the sum over ordered pairs a, b from 1..s with a not b of max(0, n - |t(b,a) - t(b,b)|).
+-- The number of all terms, document 01's sum: over the same pairs, max(0, n - |t(b,a) - t(b,b)|).
 unfoldable pub cost : ℕ → ℕ → (ℕ → ℕ → ℕ) → ℕ
 unfolding sum
 cost s n t = sum counts s (λ b. sum counts s (λ a. other a b (n - distance (t b a) (t b b))))

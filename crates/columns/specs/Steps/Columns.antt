@@ -1,30 +1,18 @@
--- What it leaves in the collector's buffer to take what the later columns put into a column out of it, and what that is worth.
+-- What it leaves in the collector's buffer to take what the later columns put into a column out of it.
 use mathlib.Core.Path.{_≡_}
-use mathlib.Core.Bool.{cond}
 use mathlib.Core.List.{List}
-use Prim.Native.Nat.{ℕ, _+_, _-_, _*_, _≤_, _<_, min}
+use Prim.Native.Nat.{ℕ, _+_, _-_, _≤_, _<_, min}
 use lib.Bits.{bitXor}
-use lib.Dec.{leb}
 use lib.ListN.{length}
-use Rattle.letters.specs.Algebra.{xors, counts, sum}
-use Rattle.letters.specs.Worth.{worthOf}
+use Rattle.letters.specs.Algebra.{xors, sum}
 use Rattle.shifts.specs.Rule.{t}
 use Rattle.system.specs.System.{sequence}
-use Rattle.system.specs.Count.{within}
 use Rattle.group.specs.declared.Group.{Group}
-use Rattle.group.specs.Ranges.{longest}
 use Rattle.lengths.specs.Lengths.{fileLetters}
 use Rattle.sequences.specs.Lists.{ranked}
 use Rattle.sequences.specs.Steps.Rows.{RowsOf}
 use Rattle.matrix.specs.Matrix.{matrix, entryNumber}
 use Rattle.matrix.specs.Pieces.{Chosen}
-
--- no more letters are added into an entry from the at most 16 columns after it, nor into the at most 16 entries of a column; solving a column adds no more either
-abbrev pub entryMost : ℕ
-entryMost = 16 * longest
-
-abbrev pub columnMost : ℕ
-columnMost = 16 * entryMost
 
 -- letter p of entry (v,u) as it stands in the collector's buffer
 abbrev pub standing : Group → List ℕ → ℕ → ℕ → ℕ → ℕ
@@ -58,20 +46,6 @@ pub record Entry (g : Group) (ids rows : List ℕ) (v w : ℕ) : Type 0 where
   pub row : 1 ≤ w
   pub upper : w ≤ v
   pub low : v ≤ g .k
-
--- what it is worth to take m(c,u) out of entry (w,c)
-unfoldable pub runWorth : Group → List ℕ → List ℕ → ℕ → ℕ → ℕ → ℕ
-runWorth g ids buffer u c w =
-    sum counts (g .l) (λ p. within (g .l) (seenAt ids w u p) (worthOf (standing g buffer c u (seenAt ids w u p))))
-
--- what it is worth to take the later columns out of entry (w,v)
-abbrev pub entryWorth : Group → List ℕ → List ℕ → ℕ → ℕ → ℕ
-entryWorth g ids buffer v w = sum counts (g .d - v) (λ j. runWorth g ids buffer (v + j) v w)
-
--- and out of column v: nothing past column k, where they put nothing into it
-unfoldable pub pullWorth : Group → List ℕ → List ℕ → ℕ → ℕ
-unfolding sum runWorth
-pullWorth g ids buffer v = cond (leb v (g .k)) (sum counts v (λ w. entryWorth g ids buffer v w)) 0
 
 -- the letters at places from + 1 .. to of entry (w,v) have these added to them, and all others are as they were
 pub record Grown (g : Group) (v w from to : ℕ) (more : ℕ → ℕ) (before after : List ℕ) : Type 0 where

@@ -1,5 +1,5 @@
 -- `letters::add_run` meets its contract: the rests are in first, and then the blocks that are left.
-use mathlib.Core.Path.{_≡_, sym, ap, _∙_}
+use mathlib.Core.Path.{_≡_, ap, _∙_}
 use mathlib.Core.List.{List}
 use Prim.Native.Nat.{ℕ, _-_}
 use native.Mathlib.Nat.{sub-zero}
@@ -9,7 +9,6 @@ use Rattle.letters.specs.Algebra.{xors}
 use Rattle.letters.specs.Runs.{added}
 use Rattle.letters.proofs.Runs.{added-whole}
 use Rattle.letters.proofs.Rests.{in-run}
-use Rattle.letters.proofs.Worth.{worth-is-length}
 use borrow.Author.Needs.{needs}
 use Rattle.letters.proofs.add_run.Statement.{statement}
 use Rattle.letters.proofs.add_run.Tie as tie
@@ -40,11 +39,9 @@ returns : tie.Need-returns
 returns c =
     let a = c .before .before .before .before .before .before .before .before .before .before .before .args in
     let s = c .before .before .before .before .before .before in
-    let lent = take (length (a .run .now) - 0) (a .run .now) in (
-      added-whole xors (a .into .now) _ _ (a .at) lent _ (in-run _ _ _ (s .add-rests .ensures .1)) (s .add-rests .ensures .0) (c .before .before .add-blocks .ensures)
-          ∙ ap (added xors (a .into .now) (a .at)) (itself (a .run .now)),
-      ap length (itself (a .run .now)) ∙ sym (worth-is-length (a .run .now)),
-    )
+    let lent = take (length (a .run .now) - 0) (a .run .now) in
+    added-whole xors (a .into .now) _ _ (a .at) lent _ (in-run _ _ _ (s .add-rests .ensures .1)) (s .add-rests .ensures .0) (c .before .before .add-blocks .ensures)
+    ∙ ap (added xors (a .into .now) (a .at)) (itself (a .run .now))
 
 pub add-run-spec : {M : Type 1} → statement M
 add-run-spec =

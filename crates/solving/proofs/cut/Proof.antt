@@ -2,7 +2,7 @@
 use native.Mathlib.Omega.{arith}
 use Prim.Native.Nat.{_-_}
 use borrow.Author.Needs.{needs}
-use Rattle.solving.proofs.Counted.{nth-next, still-going}
+use Rattle.solving.proofs.ByRank.{nth-next, still-going}
 use borrow.Author.Needs.{needs}
 use Rattle.solving.proofs.cut.Statement.{statement}
 use Rattle.solving.proofs.cut.Tie as tie

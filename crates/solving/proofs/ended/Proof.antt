@@ -2,7 +2,7 @@
 use native.Mathlib.Omega.{arith}
 use Prim.Native.Nat.{_+_, _-_, _≤_}
 use Rattle.turns.specs.Tables.{nth}
-use Rattle.solving.proofs.Counted.{nth-next}
+use Rattle.solving.proofs.ByRank.{nth-next}
 use Rattle.solving.proofs.ended.Statement.{statement}
 use Rattle.solving.proofs.ended.Tie as tie
 

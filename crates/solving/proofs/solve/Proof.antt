@@ -1,10 +1,8 @@
--- `solve` meets its contract: the tiles leave the parts as they were, and the count is the cost.
+-- `solve` meets its contract: the tiles leave the parts as they were.
 use native.Mathlib.Omega.{arith}
-use mathlib.Core.Path.{sym, _∙_}
 use Prim.Native.Nat.{_+_}
-use Rattle.system.proofs.Cost.{additions-cost}
 use Rattle.solving.proofs.Tiles.{tables-of}
-use Rattle.solving.proofs.Counted.{nth-next}
+use Rattle.solving.proofs.ByRank.{nth-next}
 use borrow.Author.Needs.{needs}
 use Rattle.solving.proofs.solve.Statement.{statement}
 use Rattle.solving.proofs.solve.Tie as tie
@@ -44,20 +42,11 @@ solve-tiles-requires c κs = let s = c .before .before .before .before .before .
   s .pre .1,
 )
 
-count-requires : tie.Need-count-requires
-count-requires c κs = search needs
-
 same-length : tie.Need-same-length
 same-length c = search needs
 
 returns : tie.Need-returns
-returns c = let s = c .before .before .before .before .before .before .before .before .before .before .before .before in
-    record {
-      same-length =
-          c .before .before .before .solve-tiles .ensures .same-length;
-      parts = c .before .before .before .solve-tiles .ensures .parts;
-      counted = c .count .ensures ∙ sym (additions-cost _ _ _ _);
-    }
+returns c = search needs
 
 pub solve-spec : {M : Type 1} → statement M
 solve-spec =
@@ -69,6 +58,5 @@ solve-spec =
     slice-aggregate-solve-tiles
     slice-aggregate-solve-tiles-2
     solve-tiles-requires
-    count-requires
     same-length
     returns)

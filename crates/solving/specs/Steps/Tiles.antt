@@ -4,9 +4,8 @@ use mathlib.Core.List.{List}
 use Prim.Native.Nat.{ℕ, _+_, _-_, _*_, _≤_, _<_}
 use lib.ListN.{length}
 use Rattle.letters.specs.Algebra.{xors}
-use Rattle.system.specs.System.{part, sequence}
+use Rattle.system.specs.System.{sequence}
 use Rattle.system.specs.Order.{delay}
-use Rattle.system.specs.Count.{other, distance}
 use Rattle.equation.specs.Rows.{shiftIn}
 use Rattle.equation.specs.Delays.{Delays}
 use Rattle.tiles.specs.Tile.{Through}
@@ -56,14 +55,3 @@ pub record Onward (s n : ℕ) (rows before after : List ℕ) (from to : ℕ) : T
   pub same-length : length after ≡ length before
   pub goes-on :
       (y : ℕ → ℕ → ℕ) → Through xors s n (shiftIn rows) y (sequence 0 before n) from → Through xors s n (shiftIn rows) y (sequence 0 after n) to
-
--- all parts are what stood there before
-pub record SolvedParts (s n : ℕ) (rows before after : List ℕ) : Type 0 where
-  pub same-length : length after ≡ length before
-  pub parts :
-      (b p : ℕ) → 1 ≤ b → b ≤ s → 1 ≤ p → p ≤ n
-      → part xors s (shiftIn rows) (sequence 0 after n) b p ≡ sequence 0 before n b p
-
--- what the pair of ranks b and a costs
-abbrev pub pairCost : ℕ → List ℕ → ℕ → ℕ → ℕ
-pairCost n rows b a = other a b (n - distance (shiftIn rows b a) (shiftIn rows b b))

@@ -22,12 +22,12 @@ returns c = let s = c .before .before .before .before in
 preview-rows-requires : tie.Need-preview-rows-requires
 preview-rows-requires c κs = preview-known _ _ (c .before .before .before .before .pre .readers)
 
-slice-aggregate-solve : tie.Need-slice-aggregate-solve
-slice-aggregate-solve c = search needs
+slice-aggregate-solve-counted : tie.Need-slice-aggregate-solve-counted
+slice-aggregate-solve-counted c = search needs
 
-solve-requires : tie.Need-solve-requires
+solve-counted-requires : tie.Need-solve-counted-requires
 unfolding previewFile
-solve-requires c κs = let s = c .before .before .before .before .before .before .before in (
+solve-counted-requires c κs = let s = c .before .before .before .before .before .before .before in (
   solvable _ _ _ (c .before .before .preview-rows .ensures) _ (preview-ranks _ _ (s .pre .readers)) _ (omega arith) (omega arith) _ (omega arith) (omega arith),
   c .before .before .before .if1 .left ∙ c .before .before .before .before .file .ensures,
 )
@@ -39,7 +39,7 @@ returns-2 : tie.Need-returns-2
 unfolding previewRecoverRefusal
 returns-2 c = let s = c .before .before .before .before .before .before .before .before .before .before in
     let long = c .before .before .before .before .before .before .if1 .left ∙ c .before .before .before .before .before .before .before .file .ensures in
-    preview-recover-fine _ _ _ _ _ _ (s .pre) long (simp (s .pre .fine, eq-eqb _ _ long)) (c .before .before .before .before .before .preview-rows .ensures) (c .before .before .solve .ensures)
+    preview-recover-fine _ _ _ _ _ _ (s .pre) long (simp (s .pre .fine, eq-eqb _ _ long)) (c .before .before .before .before .before .preview-rows .ensures) (c .before .before .solve-counted .ensures)
 
 pub recover-exact-spec : {M : Type 1} → statement M
 recover-exact-spec =
@@ -48,7 +48,7 @@ recover-exact-spec =
     file-requires
     returns
     preview-rows-requires
-    slice-aggregate-solve
-    solve-requires
+    slice-aggregate-solve-counted
+    solve-counted-requires
     same-length
     returns-2)

@@ -36,11 +36,11 @@ shift-rows-requires : tie.Need-shift-rows-requires
 shift-rows-requires c κs = let s = c .before .before .before .before .before in
     known _ _ _ (s .pre .chosen) (omega arith)
 
-slice-aggregate-solve : tie.Need-slice-aggregate-solve
-slice-aggregate-solve c = search needs
+slice-aggregate-solve-counted : tie.Need-slice-aggregate-solve-counted
+slice-aggregate-solve-counted c = search needs
 
-solve-requires : tie.Need-solve-requires
-solve-requires c κs = let s = c .before .before .before .before .before .before .before .before in (
+solve-counted-requires : tie.Need-solve-counted-requires
+solve-counted-requires c κs = let s = c .before .before .before .before .before .before .before .before in (
   solvable _ _ _ (c .before .before .shift-rows .ensures) _ (ranks _ _ _ (s .pre .chosen) (omega arith)) _ (omega arith) (omega arith) _
       (omega (arith, c .before .before .before .repair .ensures, bounds (s .args .g) (s .args .lost) (s .pre .node))) (omega (arith, c .before .before .before .repair .ensures, bounds (s .args .g) (s .args .lost) (s .pre .node))),
   c .before .before .before .before .if1 .left ∙ c .before .before .before .before .before .repair-buffer .ensures ∙ same-buffer _ _ ∙ ap (λ m. s .args .g .d * m) (sym (c .before .before .before .repair .ensures)),
@@ -53,7 +53,7 @@ returns-2 : tie.Need-returns-2
 unfolding repairRefusal
 returns-2 c = let s = c .before .before .before .before .before .before .before .before .before .before .before in
     let long = c .before .before .before .before .before .before .before .if1 .left ∙ c .before .before .before .before .before .before .before .before .repair-buffer .ensures in
-    repair-fine _ _ _ _ _ _ _ _ (s .pre) long (simp (s .pre .fine, eq-eqb _ _ long)) (c .before .before .before .before .before .before .repair .ensures) (c .before .before .before .before .before .shift-rows .ensures) (c .before .before .solve .ensures)
+    repair-fine _ _ _ _ _ _ _ _ (s .pre) long (simp (s .pre .fine, eq-eqb _ _ long)) (c .before .before .before .before .before .before .repair .ensures) (c .before .before .before .before .before .shift-rows .ensures) (c .before .before .solve-counted .ensures)
 
 pub repair-exact-spec : {M : Type 1} → statement M
 repair-exact-spec =
@@ -63,7 +63,7 @@ repair-exact-spec =
     returns
     repair-requires
     shift-rows-requires
-    slice-aggregate-solve
-    solve-requires
+    slice-aggregate-solve-counted
+    solve-counted-requires
     same-length
     returns-2)

@@ -1,15 +1,14 @@
 -- `recovery::recover_column` meets its contract: the later columns are taken out of the column, which is then one part of the buffer that the solver has.
 use native.Mathlib.Omega.{arith}
 use mathlib.Core.Path.{sym, ap, subst, _∙_}
-use Prim.Native.Nat.{_+_, _*_, _≤_}
+use Prim.Native.Nat.{_+_, _*_}
 use native.Mathlib.Nat.{mul-le-mul}
-use Rattle.system.specs.System.{sequence}
-use Rattle.equation.specs.Rows.{shiftIn, Solvable}
+use Rattle.equation.specs.Rows.{Solvable}
 use Rattle.sequences.proofs.Charted.{solvable}
 use Rattle.matrix.proofs.ChosenRanks.{ranks}
-use Rattle.recovering.proofs.SolveColumn.{column-fits, lent-size, lent-length, additions-bound, solved-as, column-done}
+use Rattle.recovering.proofs.SolveColumn.{column-fits, lent-size, lent-length, solved-as, column-done}
 use Rattle.group.specs.Ranges.{longest}
-use Rattle.columns.specs.Steps.Columns.{entryMost, Collected}
+use Rattle.columns.specs.Steps.Columns.{Collected}
 use borrow.Author.Needs.{needs}
 use Rattle.recovering.proofs.recovery.recover_column.Statement.{statement}
 use Rattle.recovering.proofs.recovery.recover_column.Tie as tie
@@ -44,29 +43,16 @@ part-solve-start c = search needs
 part-solve-end : tie.Need-part-solve-end
 part-solve-end c = let s = c .before .before .before .before .before .before .before .before .before .before .before in
     let q = c .before .before .pull-column in
-    let collected : Collected (s .args .g) (s .args .ids .now) (q .last .1 .1 .1 .1 .0) = record { chosen = s .pre .0 .chosen; long = q .ensures .0 .same-length ∙ s .pre .0 .long } in
+    let collected : Collected (s .args .g) (s .args .ids .now) (q .last .1 .1 .1 .1 .0) = record { chosen = s .pre .0 .chosen; long = q .ensures .same-length ∙ s .pre .0 .long } in
     omega (arith, column-fits (s .args .g) (s .args .ids .now) (q .last .1 .1 .1 .1 .0) collected (s .args .u) (omega arith) (omega arith), (ap (λ m. m * s .args .g .l) (c .before .before .before .before .before .before .sequences-before .ensures .0)), (ap (λ m. c .before .before .before .before .before .before .sequences-before .result * s .args .g .l + m * s .args .g .l) (c .before .before .before .before .before .before .before .lesser .ensures)))
 
 solve-requires : tie.Need-solve-requires
 solve-requires c κs = let s = c .before .before .before .before .before .before .before .before .before .before .before .before in
     let q = c .before .before .before .pull-column in
-    let collected : Collected (s .args .g) (s .args .ids .now) (q .last .1 .1 .1 .1 .0) = record { chosen = s .pre .0 .chosen; long = q .ensures .0 .same-length ∙ s .pre .0 .long } in (
+    let collected : Collected (s .args .g) (s .args .ids .now) (q .last .1 .1 .1 .1 .0) = record { chosen = s .pre .0 .chosen; long = q .ensures .same-length ∙ s .pre .0 .long } in (
       subst (λ m. Solvable m (s .args .g .l) (s .args .rows .now)) (sym (c .before .before .before .before .before .before .before .before .lesser .ensures))
           (solvable _ _ _ (s .pre .1) _ (ranks _ _ _ (s .pre .0 .chosen) (omega arith)) _ (omega arith) (omega arith) (s .args .g .l) (omega arith) (omega arith)),
       lent-length (s .args .g) (s .args .ids .now) (q .last .1 .1 .1 .1 .0) collected (s .args .u) (omega arith) (omega arith) _ _ (ap (λ m. m * s .args .g .l) (c .before .before .before .before .before .before .before .sequences-before .ensures .0)) (ap (λ m. c .before .before .before .before .before .before .before .sequences-before .result * s .args .g .l + m * s .args .g .l) (c .before .before .before .before .before .before .before .before .lesser .ensures)) ∙ ap (λ m. m * s .args .g .l) (sym (c .before .before .before .before .before .before .before .before .lesser .ensures)),
-    )
-
-add-result : tie.Need-add-result
-add-result c = let s = c .before .before .before .before .before .before .before .before .before .before .before .before .before .before .before in
-    let v = c .before .before .solve in
-    let n = c .before .before .before .before .before .before .before .before .before .before .before .lesser .result in
-    let few : n ≤ 16 = omega (arith, c .before .before .before .before .before .before .before .before .before .before .before .lesser .ensures) in
-    omega (
-      arith,
-      c .before .before .before .before .before .before .pull-column .ensures .1 .1,
-      v .ensures .counted,
-      additions-bound n (s .args .g .l) (shiftIn (s .args .rows .now)) (sequence 0 (v .last .0) (s .args .g .l)),
-      mul-le-mul {n₁ = n} {m₁ = s .args .g .l * n} {n₂ = 16} {m₂ = entryMost} few (mul-le-mul {n₁ = s .args .g .l} {m₁ = n} {n₂ = longest} {m₂ = 16} (omega arith) few),
     )
 
 same-length : tie.Need-same-length
@@ -75,11 +61,11 @@ same-length c = search needs
 returns : tie.Need-returns
 returns c = let s = c .before .before .before .before .before .before .before .before .before .before .before .before .before .before .before in
     let q = c .before .before .before .before .before .before .pull-column in
-    let collected : Collected (s .args .g) (s .args .ids .now) (q .last .1 .1 .1 .1 .0) = record { chosen = s .pre .0 .chosen; long = q .ensures .0 .same-length ∙ s .pre .0 .long } in
+    let collected : Collected (s .args .g) (s .args .ids .now) (q .last .1 .1 .1 .1 .0) = record { chosen = s .pre .0 .chosen; long = q .ensures .same-length ∙ s .pre .0 .long } in
     let v = c .before .before .solve in
-    column-done (s .args .g) (s .args .ids .now) (q .last .1 .1 .1 .1 .0) collected (s .args .u) (omega arith) (omega arith) _ _ (ap (λ m. m * s .args .g .l) (c .before .before .before .before .before .before .before .before .before .before .sequences-before .ensures .0)) (ap (λ m. c .before .before .before .before .before .before .before .before .before .before .sequences-before .result * s .args .g .l + m * s .args .g .l) (c .before .before .before .before .before .before .before .before .before .before .before .lesser .ensures)) (v .last .0) (v .ensures .same-length ∙ lent-size (s .args .g) (s .args .ids .now) (q .last .1 .1 .1 .1 .0) collected (s .args .u) (omega arith) (omega arith) _ _ (ap (λ m. m * s .args .g .l) (c .before .before .before .before .before .before .before .before .before .before .sequences-before .ensures .0)) (ap (λ m. c .before .before .before .before .before .before .before .before .before .before .sequences-before .result * s .args .g .l + m * s .args .g .l) (c .before .before .before .before .before .before .before .before .before .before .before .lesser .ensures))) (s .args .rows .now) _ _ _ (s .pre .1)
-    (q .ensures .0) (q .ensures .1 .0) (q .ensures .1 .1)
-    (solved-as _ _ _ _ _ _ _ (c .before .before .before .before .before .before .before .before .before .before .before .lesser .ensures) (v .ensures))
+    column-done (s .args .g) (s .args .ids .now) (q .last .1 .1 .1 .1 .0) collected (s .args .u) (omega arith) (omega arith) _ _ (ap (λ m. m * s .args .g .l) (c .before .before .before .before .before .before .before .before .before .before .sequences-before .ensures .0)) (ap (λ m. c .before .before .before .before .before .before .before .before .before .before .sequences-before .result * s .args .g .l + m * s .args .g .l) (c .before .before .before .before .before .before .before .before .before .before .before .lesser .ensures)) (v .last .0) (v .ensures .same-length ∙ lent-size (s .args .g) (s .args .ids .now) (q .last .1 .1 .1 .1 .0) collected (s .args .u) (omega arith) (omega arith) _ _ (ap (λ m. m * s .args .g .l) (c .before .before .before .before .before .before .before .before .before .before .sequences-before .ensures .0)) (ap (λ m. c .before .before .before .before .before .before .before .before .before .before .sequences-before .result * s .args .g .l + m * s .args .g .l) (c .before .before .before .before .before .before .before .before .before .before .before .lesser .ensures))) (s .args .rows .now) _ (s .pre .1)
+    (q .ensures)
+    (solved-as _ _ _ _ _ _ (c .before .before .before .before .before .before .before .before .before .before .before .lesser .ensures) (v .ensures))
 
 pub recover-column-spec : {M : Type 1} → statement M
 recover-column-spec =
@@ -95,6 +81,5 @@ recover-column-spec =
     part-solve-start
     part-solve-end
     solve-requires
-    add-result
     same-length
     returns)

@@ -8,7 +8,7 @@ use Rattle.system.specs.Order.{delay}
 use Rattle.system.proofs.Order.{delay-first}
 use borrow.Author.Count.{below-more}
 use Rattle.sums.proofs.Filled.{filled-more}
-use Rattle.solving.proofs.Counted.{by-rank, next-delay, bounded-more}
+use Rattle.solving.proofs.ByRank.{by-rank, next-delay, bounded-more}
 use Rattle.solving.proofs.tables.delays.Statement.{statement}
 use Rattle.solving.proofs.tables.delays.Tie as tie
 

@@ -6,7 +6,7 @@ use lib.ListN.{length, getD, length-set}
 use borrow.Author.Needs.{needs}
 use Rattle.equation.specs.Rows.{shiftIn}
 use Rattle.sums.proofs.Filled.{filled-more}
-use Rattle.solving.proofs.Counted.{by-rank}
+use Rattle.solving.proofs.ByRank.{by-rank}
 use Rattle.solving.proofs.tables.exponents.Statement.{statement}
 use Rattle.solving.proofs.tables.exponents.Tie as tie
 

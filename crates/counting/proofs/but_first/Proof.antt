@@ -1,0 +1,24 @@
+-- `but_first` meets its contract: the first letters are counted by themselves and taken off.
+use native.Mathlib.Omega.{arith}
+use Rattle.counting.proofs.Taken.{part-of-whole, left-rest}
+use borrow.Author.Needs.{needs}
+use Rattle.counting.proofs.but_first.Statement.{statement}
+use Rattle.counting.proofs.but_first.Tie as tie
+
+returns : tie.Need-returns
+returns c = search needs
+
+count-requires : tie.Need-count-requires
+count-requires c κs = search needs
+
+sub-result : tie.Need-sub-result
+sub-result c = let s = c .before .before .before in
+    omega (arith, c .count .ensures, part-of-whole _ _ _ _ (s .args .outside) (s .pre) (omega arith))
+
+returns-2 : tie.Need-returns-2
+returns-2 c = let s = c .before .before .before in
+    left-rest _ _ _ _ (s .args .outside) (s .pre) _ (c .count .result) (omega arith) (c .count .ensures)
+    (omega (arith, c .count .ensures, part-of-whole _ _ _ _ (s .args .outside) (s .pre) (omega arith)))
+
+pub but-first-spec : {M : Type 1} → statement M
+but-first-spec = tie.close (tie.spec returns count-requires sub-result returns-2)

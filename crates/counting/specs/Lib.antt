@@ -1,0 +1,2 @@
+-- What the calls that count have between two statements.
+pub mod Steps

@@ -1,0 +1,2 @@
+-- What the count of a recovery has between two statements.
+pub mod Steps

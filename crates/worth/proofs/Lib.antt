@@ -1,0 +1,3 @@
+-- The laws of worth.
+pub mod Worth
+mod Counted

@@ -1,0 +1,3 @@
+-- What an addition is worth.
+pub mod Worth
+pub mod Steps
