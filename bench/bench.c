@@ -3,9 +3,12 @@
  * and encode and recover of previews. bench/run makes the tables. */
 #include "../include/dulvaspen.h"
 #include "plain.h"
-/* run addition alone, of the crate bench_runs */
+/* run addition alone, of the crate bench_runs; with its report, and the report alone, of bench_counts */
 extern uint64_t bench_add_run(uint8_t *into, uint64_t into_len, uint64_t at, const uint8_t *run, uint64_t run_len);
 extern uint64_t bench_add_within(uint8_t *buffer, uint64_t buffer_len, uint64_t to, uint64_t from, uint64_t count);
+extern uint64_t bench_add_run_counted(uint8_t *into, uint64_t into_len, uint64_t at, const uint8_t *run, uint64_t run_len);
+extern uint64_t bench_add_within_counted(uint8_t *buffer, uint64_t buffer_len, uint64_t to, uint64_t from, uint64_t count);
+extern uint64_t bench_count(const uint8_t *from, uint64_t from_len, uint64_t start, uint64_t count);
 #include <stdio.h>
 #include <stdlib.h>
 #include <string.h>
@@ -61,7 +64,7 @@ static void summed(const char *name, uint64_t additions) {
            (unsigned long long)additions);
 }
 
-/* A run of so many letters added into another buffer, and to earlier letters of its own. */
+/* A run of so many letters added into another buffer, and to earlier letters of its own; both with their reports; and a report alone. */
 static void runs(uint64_t count) {
     uint64_t size = 3 * count + 64, at = 3, from = at + count + 5;
     g = (group){0, 0, 0, count};
@@ -74,9 +77,22 @@ static void runs(uint64_t count) {
     MEASURE("add_within", "plain", want, size, (count_plain = plain_add_within(want, size, at, from, count), 0));
     if (count_ours != count_plain || memcmp(got, want, size)) stop("add_within", 98);
     compare("add_within", count, count);
+    MEASURE("add_run_counted", "ours", got, size, (count_ours = bench_add_run_counted(got, size, at, file + 1, count), 0));
+    MEASURE("add_run_counted", "plain", want, size, (count_plain = plain_add_run_counted(want, size, at, file + 1, count), 0));
+    if (count_ours != count_plain || memcmp(got, want, size)) stop("add_run_counted", 98);
+    compare("add_run_counted", count, count);
+    MEASURE("add_within_counted", "ours", got, size, (count_ours = bench_add_within_counted(got, size, at, from, count), 0));
+    MEASURE("add_within_counted", "plain", want, size, (count_plain = plain_add_within_counted(want, size, at, from, count), 0));
+    if (count_ours != count_plain || memcmp(got, want, size)) stop("add_within_counted", 98);
+    compare("add_within_counted", count, count);
+    MEASURE("count", "ours", got, size, (count_ours = bench_count(got, size, from, count), 0));
+    MEASURE("count", "plain", want, size, (count_plain = plain_count(want, size, from, count), 0));
+    if (count_ours != count_plain) stop("count", 98);
+    compare("count", count, count);
 }
 
-/* Run addition must leave and answer what plain C does at every short length, wherever the runs start. */
+/* Run addition must leave and answer what plain C does at every short length, wherever the runs start, and count what it counts: of letters of which a few are
+ * zero, and of letters of which many are. */
 static void short_runs(void) {
     for (uint64_t count = 0; count <= 400; count++)
         for (uint64_t at = 0; at < 4; at++) {
@@ -86,7 +102,23 @@ static void short_runs(void) {
             if (bench_add_run(got, size, at, file + at, count) != plain_add_run(want, size, at, file + at, count)) stop("add_run", count);
             if (bench_add_within(got, size, at, from, count) != plain_add_within(want, size, at, from, count)) stop("add_within", count);
             if (memcmp(got, want, size)) stop("a short run", count);
+            if (bench_add_run_counted(got, size, at, file + at, count) != plain_add_run_counted(want, size, at, file + at, count)) stop("add_run_counted", count);
+            for (uint64_t i = 0; i < size; i++) if (file[i + count] & 1) got[i] = want[i] = 0;
+            if (bench_add_within_counted(got, size, at, from, count) != plain_add_within_counted(want, size, at, from, count)) stop("add_within_counted", count);
+            if (bench_count(got, size, from, count) != plain_count(want, size, from, count)) stop("count", count);
+            if (memcmp(got, want, size)) stop("a short run that is counted", count);
         }
+}
+
+/* All terms of solving, document 01's sum, whatever the letters: what the work is measured by. The shift of node i at column j is (i + more)(j - 1). */
+static uint64_t all_terms(uint64_t s, uint64_t n, const uint64_t *ids, int more) {
+    uint64_t count = 0;
+    for (uint64_t b = 1; b <= s; b++)
+        for (uint64_t a = 1; a <= s; a++) {
+            uint64_t apart = (ids[b - 1] + (uint64_t)more) * (a < b ? b - a : a - b);
+            if (a != b && apart < n) count += n - apart;
+        }
+    return count;
 }
 
 static void packets(uint64_t letters) {
@@ -134,7 +166,7 @@ static void odd_lengths(void) {
 }
 
 static void recovery(uint64_t letters) {
-    uint64_t ids[16], from, to, outside = 0;
+    uint64_t ids[16], from, to, inside = 0, outside = 0;
     for (uint64_t v = 1; v <= g.k; v++) ids[v - 1] = g.n + 1 - v;
     for (uint64_t v = 1; v <= g.k; v++)
         for (uint64_t u = v; u <= g.d; u++) {
@@ -148,13 +180,15 @@ static void recovery(uint64_t letters) {
     MEASURE("recover", "tiles", in_tiles, letters, plain_recover_tiles(g, ids, g.k, in_tiles, letters, &count_tiles));
     if (count_ours != count_plain || count_ours != count_blocks || memcmp(got, file, letters) || memcmp(in_blocks, file, letters)) stop("recover", 98);
     if (count_ours != count_tiles || memcmp(got, in_tiles, letters)) stop("recover in tiles", 98);
-    compare("recover", letters, count_ours);
+    for (uint64_t u = 1; u <= g.d; u++) inside += all_terms(u < g.k ? u : g.k, g.l, ids, -1);
     for (uint64_t u = 2; u <= g.d; u++)
         for (uint64_t v = 1; v < u && v <= g.k; v++)
             for (uint64_t w = 1; w <= v; w++) {
                 uint64_t moved = (ids[w - 1] - 1) * (u - w);
                 outside += moved < g.l ? g.l - moved : 0;
             }
+    if (count_ours > inside + outside) stop("the count of recover", count_ours);
+    compare("recover", letters, inside + outside);
     summed("recover", outside);
 }
 
@@ -180,7 +214,9 @@ static void repair(void) {
     MEASURE("repair", "tiles", in_tiles, g.d * length, plain_repair_tiles(g, lost, helpers, g.d, in_tiles, g.d * length, &count_tiles));
     if (count_ours != count_plain || memcmp(got, node_packets[lost], held[lost])) stop("repair", 98);
     if (count_ours != count_tiles || memcmp(got, in_tiles, g.d * length)) stop("repair in tiles", 98);
-    compare("repair", g.d * length, count_ours);
+    made = all_terms(g.d, length, helpers, -1);
+    if (count_ours > made) stop("the count of repair", count_ours);
+    compare("repair", g.d * length, made);
 }
 
 /* Judges a share that comes in bursts of so many bytes. */
@@ -286,7 +322,8 @@ static void previews(void) {
     MEASURE("preview-recover", "plain", want, letters, plain_preview_recover(g, ids, g.k, want, letters, &count_plain));
     MEASURE("preview-recover", "tiles", in_tiles, letters, plain_preview_recover_tiles(g, ids, g.k, in_tiles, letters, &count_tiles));
     if (count_ours != count_plain || count_ours != count_tiles || memcmp(got, file, letters) || memcmp(got, in_tiles, letters)) stop("recover of a preview", 98);
-    compare("preview-recover", letters, count_ours);
+    if (count_ours > all_terms(g.k, g.l, ids, 0)) stop("the count of a preview's recovery", count_ours);
+    compare("preview-recover", letters, all_terms(g.k, g.l, ids, 0));
 }
 
 /* A preview's share: plain C must read from it what was written, and the judges agree on every cut of it and on every byte that is changed. */

@@ -46,6 +46,28 @@ uint64_t plain_add_within(uint8_t *buffer, uint64_t buffer_len, uint64_t to, uin
     return count;
 }
 
+/* How many of n letters aren't zero, letter by letter. */
+static uint64_t others(const uint8_t *x, uint64_t n) {
+    uint64_t count = 0;
+    for (uint64_t i = 0; i < n; i++) count += x[i] != 0;
+    return count;
+}
+
+uint64_t plain_count(const uint8_t *x, uint64_t x_len, uint64_t start, uint64_t count) {
+    (void)x_len;
+    return others(x + start, count);
+}
+
+uint64_t plain_add_run_counted(uint8_t *into, uint64_t into_len, uint64_t at, const uint8_t *run, uint64_t run_len) {
+    plain_add_run(into, into_len, at, run, run_len);
+    return others(run, run_len);
+}
+
+uint64_t plain_add_within_counted(uint8_t *buffer, uint64_t buffer_len, uint64_t to, uint64_t from, uint64_t count) {
+    plain_add_within(buffer, buffer_len, to, from, count);
+    return others(buffer + from, count);
+}
+
 uint64_t plain_encode(group g, uint64_t node, const uint8_t *file, uint64_t file_len, uint8_t *packets, uint64_t packets_len) {
     uint64_t r = check_node(g, node), length = piece_letters(g, node);
     if (r) return r;
@@ -76,7 +98,8 @@ uint64_t plain_help(group g, uint64_t lost, uint64_t helper, uint64_t rank, cons
     return 0;
 }
 
-/* ---- the solver: rounds with a test of each place at both ends, and rounds without tests between them ---- */
+/* ---- the solver: rounds with a test of each place at both ends, and rounds without tests between them. A letter that is added is final, so it counts as
+ * it is added, unless it is zero ---- */
 
 /* Never laid into its callers, so that callgrind can tell what is spent in it. */
 __attribute__((noinline)) static uint64_t solve(uint8_t *part, uint64_t s, uint64_t n, const uint64_t *ids) {
@@ -94,9 +117,12 @@ __attribute__((noinline)) static uint64_t solve(uint8_t *part, uint64_t s, uint6
             if (r > lead && r <= n) {
                 uint64_t step = r - lead - 1;
                 uint8_t sum = 0;
-                for (uint64_t a = 0; a < s; a++) sum ^= part[start[u][a] + step];
+                count -= part[start[u][u] + step] != 0;
+                for (uint64_t a = 0; a < s; a++) {
+                    sum ^= part[start[u][a] + step];
+                    count += part[start[u][a] + step] != 0;
+                }
                 part[start[u][u] + step] = sum;
-                count += s - 1;
                 continue;
             }
             if (r <= delay[u] || r - delay[u] > n) continue;
@@ -106,7 +132,7 @@ __attribute__((noinline)) static uint64_t solve(uint8_t *part, uint64_t s, uint6
                 int64_t at = q + (int64_t)t(ids[u], u + 1) - (int64_t)t(ids[u], a + 1);
                 if (a == u || at < 1 || at > (int64_t)n) continue;
                 sum ^= part[a * n + at - 1];
-                count++;
+                count += part[a * n + at - 1] != 0;
             }
             part[u * n + q - 1] = sum;
         }
@@ -127,7 +153,7 @@ static inline uint64_t recover_by(solver *solved, group g, const uint64_t *ids, 
                 uint64_t moved = t(ids[w - 1], u) - t(ids[w - 1], w);
                 if (moved >= g.l) continue;
                 add(buffer + entry(g, w, c) + moved, buffer + entry(g, c, u), g.l - moved);
-                made += g.l - moved;
+                made += others(buffer + entry(g, c, u), g.l - moved);
             }
     }
     *count = made;
@@ -235,9 +261,8 @@ uint64_t plain_help_blocks(group g, uint64_t lost, uint64_t helper, uint64_t ran
     return 0;
 }
 
-/* Each column loses the later ones just before it is solved, in place of being lessened by each as soon as that is solved. */
+/* Each column loses the later ones just before it is solved, in place of being lessened by each as soon as that is solved. Only what the solver counts is counted. */
 static inline uint64_t recover_blocks_by(solver *solved, group g, const uint64_t *ids, uint64_t ids_len, uint8_t *buffer, uint64_t buffer_len, uint64_t *count) {
-    if (g.l < BLOCK) return recover_by(solved, g, ids, ids_len, buffer, buffer_len, count);
     uint64_t r = check_group(g), made = 0;
     if (!r) r = check_ids(g, g.k, ids, ids_len);
     if (!r && buffer_len != file_letters(g)) r = 5;
@@ -252,7 +277,6 @@ static inline uint64_t recover_blocks_by(solver *solved, group g, const uint64_t
             for (uint64_t u = v + 1; u <= reached; u++) {
                 const uint8_t *run = buffer + entry(g, v, u);
                 uint64_t at = step * (u - w);
-                made += g.l - at;
                 if (!middle) { add(to + at, run, g.l - at); continue; }
                 add(to + at, run, start - at);
                 add(to + stop, run + (stop - at), g.l - stop);
@@ -266,8 +290,48 @@ static inline uint64_t recover_blocks_by(solver *solved, group g, const uint64_t
     return 0;
 }
 
+/* Counting in blocks, too: in a block of 128 letters a byte can count the zeros. */
+static uint64_t others_in_blocks(const uint8_t *x, uint64_t n) {
+    uint64_t zeros = 0, i = 0;
+    for (; i + BLOCK <= n; i += BLOCK) {
+        uint8_t few = 0;
+        for (int j = 0; j < BLOCK; j++) few += x[i + j] == 0;
+        zeros += few;
+    }
+    for (; i < n; i++) zeros += x[i] == 0;
+    return n - zeros;
+}
+
+/* Of a sequence of n letters, `whole` of which aren't zero, those that a rank takes whose shifts lie so far apart: all but the last, or the first, so many. */
+static uint64_t but_last(const uint8_t *x, uint64_t n, uint64_t whole, uint64_t apart) {
+    return apart < n ? whole - others_in_blocks(x + n - apart, apart) : 0;
+}
+
+static uint64_t but_first(const uint8_t *x, uint64_t n, uint64_t whole, uint64_t apart) {
+    return apart < n ? whole - others_in_blocks(x, apart) : 0;
+}
+
+/* What takes m(v,u) out of the earlier columns. */
+static uint64_t taken_of(group g, const uint64_t *ids, const uint8_t *x, uint64_t whole, uint64_t v, uint64_t u) {
+    uint64_t count = 0;
+    for (uint64_t w = 1; v < u && w <= v; w++) count += but_last(x, g.l, whole, (ids[w - 1] - 1) * (u - w));
+    return count;
+}
+
+/* All of them, over the file. Never laid into its caller, so that callgrind can tell what is spent in it. */
+__attribute__((noinline)) static uint64_t count_taken(group g, const uint64_t *ids, const uint8_t *file) {
+    uint64_t count = 0;
+    for (uint64_t u = 2; u <= g.d; u++)
+        for (uint64_t v = 1; v <= least(u - 1, g.k); v++)
+            count += taken_of(g, ids, file + entry(g, v, u), others_in_blocks(file + entry(g, v, u), g.l), v, u);
+    return count;
+}
+
 uint64_t plain_recover_blocks(group g, const uint64_t *ids, uint64_t ids_len, uint8_t *buffer, uint64_t buffer_len, uint64_t *count) {
-    return recover_blocks_by(solve, g, ids, ids_len, buffer, buffer_len, count);
+    if (g.l < BLOCK) return recover_by(solve, g, ids, ids_len, buffer, buffer_len, count);
+    uint64_t r = recover_blocks_by(solve, g, ids, ids_len, buffer, buffer_len, count);
+    if (!r) *count += count_taken(g, ids, buffer);
+    return r;
 }
 
 /* ---- the solver run by run: the rounds are cut where a rank begins or ends, and each tile is solved by Newton's interpolation over D, which moves
@@ -306,11 +370,13 @@ static void divide(uint8_t *x, uint64_t count, uint64_t w) {
     for (; p < count; p++) x[p] ^= x[p - w];
 }
 
-static uint64_t count_of(uint64_t s, uint64_t n, const uint64_t *ids) {
+/* What the other ranks take of sequence a. */
+static uint64_t taken_by_others(const uint8_t *x, uint64_t n, uint64_t whole, uint64_t s, uint64_t a, const uint64_t *ids) {
     uint64_t count = 0;
-    for (uint64_t b = 1; b <= s; b++)
-        for (uint64_t a = 1; a <= s; a++)
-            if (a != b) count += gap(n, (ids[b - 1] - 1) * (a < b ? b - a : a - b));
+    for (uint64_t b = 1; b <= s; b++) {
+        if (a < b) count += but_first(x, n, whole, (ids[b - 1] - 1) * (b - a));
+        if (b < a) count += but_last(x, n, whole, (ids[b - 1] - 1) * (a - b));
+    }
     return count;
 }
 
@@ -338,7 +404,7 @@ static void tile(uint8_t *part, uint64_t n, const uint64_t *ids, const uint64_t 
         }
 }
 
-__attribute__((noinline)) static uint64_t solve_tiles(uint8_t *part, uint64_t s, uint64_t n, const uint64_t *ids) {
+__attribute__((noinline)) static uint64_t tiles(uint8_t *part, uint64_t s, uint64_t n, const uint64_t *ids) {
     uint64_t delay[16] = {0};
     for (uint64_t u = 1; u < s; u++) delay[u] = delay[u - 1] + ids[u] - 1;
     for (uint64_t done = 0, lo = 0, hi = 0, end; done < n + delay[s - 1]; done = end) {
@@ -348,11 +414,26 @@ __attribute__((noinline)) static uint64_t solve_tiles(uint8_t *part, uint64_t s,
         if (hi < s) end = least(end, delay[hi]);
         tile(part, n, ids, delay, lo, hi, done, end - done);
     }
-    return count_of(s, n, ids);
+    return 0;
+}
+
+/* Counted when all is solved: whole runs can't be, since what is added isn't final. */
+static uint64_t solve_tiles(uint8_t *part, uint64_t s, uint64_t n, const uint64_t *ids) {
+    uint64_t count = tiles(part, s, n, ids);
+    for (uint64_t a = 1; a <= s; a++, part += n) count += taken_by_others(part, n, others_in_blocks(part, n), s, a, ids);
+    return count;
 }
 
 uint64_t plain_recover_tiles(group g, const uint64_t *ids, uint64_t ids_len, uint8_t *buffer, uint64_t buffer_len, uint64_t *count) {
-    return recover_blocks_by(solve_tiles, g, ids, ids_len, buffer, buffer_len, count);
+    if (g.l < BLOCK) return recover_by(solve_tiles, g, ids, ids_len, buffer, buffer_len, count);
+    uint64_t r = recover_blocks_by(tiles, g, ids, ids_len, buffer, buffer_len, count);
+    for (uint64_t u = 2; !r && u <= g.d; u++)
+        for (uint64_t v = 1, s = least(u, g.k); v <= s; v++) {
+            const uint8_t *x = buffer + entry(g, v, u);
+            uint64_t whole = others_in_blocks(x, g.l);
+            *count += taken_by_others(x, g.l, whole, s, v, ids) + taken_of(g, ids, x, whole, v, u);
+        }
+    return r;
 }
 
 uint64_t plain_repair_tiles(group g, uint64_t lost, const uint64_t *helpers, uint64_t helpers_len, uint8_t *buffer, uint64_t buffer_len, uint64_t *count) {

@@ -6,6 +6,10 @@ enum { HEAD = 7 };                             /* the numbers of a head: n, k, d
 
 uint64_t plain_add_run(uint8_t *into, uint64_t into_len, uint64_t at, const uint8_t *run, uint64_t run_len);
 uint64_t plain_add_within(uint8_t *buffer, uint64_t buffer_len, uint64_t to, uint64_t from, uint64_t count);
+/* The same with their reports, and a report alone: how many of the letters aren't zero. */
+uint64_t plain_add_run_counted(uint8_t *into, uint64_t into_len, uint64_t at, const uint8_t *run, uint64_t run_len);
+uint64_t plain_add_within_counted(uint8_t *buffer, uint64_t buffer_len, uint64_t to, uint64_t from, uint64_t count);
+uint64_t plain_count(const uint8_t *x, uint64_t x_len, uint64_t start, uint64_t count);
 uint64_t plain_encode(group g, uint64_t node, const uint8_t *file, uint64_t file_len, uint8_t *packets, uint64_t packets_len);
 uint64_t plain_help(group g, uint64_t lost, uint64_t helper, uint64_t rank, const uint8_t *packets, uint64_t packets_len, uint8_t *piece,
                     uint64_t piece_len);

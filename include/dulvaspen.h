@@ -74,9 +74,9 @@
 
 /* The version of this header and of the library that it was installed with. MAJOR rises where a call or a number changes its meaning, MINOR
  * where something is added. */
-#define DULVASPEN_VERSION_MAJOR 3
+#define DULVASPEN_VERSION_MAJOR 4
 #define DULVASPEN_VERSION_MINOR 0
-#define DULVASPEN_VERSION "3.0"
+#define DULVASPEN_VERSION "4.0"
 
 /* Share bytes were found to be neither a share nor the beginning of one, whatever is wrong with them: any of the numbers 8 to 12. (In version 1
  * that was 8 alone.) */
@@ -144,7 +144,12 @@ uint64_t dulvaspen_piece(uint64_t n, uint64_t k, uint64_t d, uint64_t l, uint64_
 uint64_t dulvaspen_entry(uint64_t n, uint64_t k, uint64_t d, uint64_t l, uint64_t rank, uint64_t column, uint64_t *start);
 
 /* Turns the pieces in buffer into the file, in place: the one file that has those pieces, whatever their letters. ids are the k nodes,
- * strictly falling. buffer_len must be B*L (else 5). *count = the letter additions made. Refusals: 1, 2, 3, 4, 5. */
+ * strictly falling. buffer_len must be B*L (else 5). Refusals: 1, 2, 3, 4, 5.
+ *
+ * *count, here and of the other calls that have it, guesses disk wear: it is how many letters that aren't zero have to be added to others. Adding a zero
+ * writes nothing new, so it doesn't count. It is no tally of what this code does but a number of what comes out: of the terms of the code's equations (in the
+ * repository docs/SCHEME.md, 8) those whose letter isn't zero. It is 0 where all letters that come out are zero, and never above the number of all terms,
+ * which it is where none of them is. (Up to version 3 it was the number of all terms.) */
 uint64_t dulvaspen_recover(uint64_t n, uint64_t k, uint64_t d, uint64_t l, const uint64_t *ids, uint64_t ids_len, uint8_t *buffer,
                            uint64_t buffer_len, uint64_t *count);
 
@@ -157,8 +162,8 @@ uint64_t dulvaspen_help(uint64_t n, uint64_t k, uint64_t d, uint64_t l, uint64_t
                         const uint8_t *packets, uint64_t packets_len, uint8_t *piece, uint64_t piece_len);
 
 /* Turns the d pieces in buffer, one after another in the helpers' order, into the lost node's packets, in place. helpers are d nodes,
- * strictly falling, none of them lost. buffer_len must be d*L', which is the lost node's T (else 5). *count = the letter additions made.
- * Refusals: 1, 2, 3, 4, 5. */
+ * strictly falling, none of them lost. buffer_len must be d*L', which is the lost node's T (else 5). *count guesses disk wear: the letters that aren't zero
+ * that have to be added, as dulvaspen_recover has it. Refusals: 1, 2, 3, 4, 5. */
 uint64_t dulvaspen_repair(uint64_t n, uint64_t k, uint64_t d, uint64_t l, uint64_t lost, const uint64_t *helpers, uint64_t helpers_len,
                           uint8_t *buffer, uint64_t buffer_len, uint64_t *count);
 
@@ -257,7 +262,8 @@ uint64_t dulvaspen_preview_piece(uint64_t n, uint64_t k, uint64_t l, uint64_t no
 uint64_t dulvaspen_preview_entry(uint64_t n, uint64_t k, uint64_t l, uint64_t rank, uint64_t *start);
 
 /* Turns the k pieces in buffer into the preview, in place: the one file that has those pieces, whatever their letters. ids are the k nodes, strictly
- * falling. buffer_len must be k*L (else 5). *count = the letter additions of solving. Refusals: 1, 2, 3, 4, 5. */
+ * falling. buffer_len must be k*L (else 5). *count guesses disk wear: the letters that aren't zero that have to be added, as dulvaspen_recover has it.
+ * Refusals: 1, 2, 3, 4, 5. */
 uint64_t dulvaspen_preview_recover(uint64_t n, uint64_t k, uint64_t l, const uint64_t *ids, uint64_t ids_len, uint8_t *buffer, uint64_t buffer_len,
                                    uint64_t *count);
 

@@ -1,28 +1,20 @@
 -- What adding letters is worth: what parts of a run are worth together, and never more than its letters.
 use mathlib.Core.Path.{_≡_, refl, sym, ap, ap₂, _∙_}
-use mathlib.Core.Bool.{Bool, true, false, cond}
 use mathlib.Core.List.{List, [], _∷_, _++_}
+use mathlib.Core.Logic.{⊎-elim}
 use Prim.Native.Nat.{ℕ, zero, suc, _+_, _-_, _≤_, _<_}
 use native.Mathlib.Nat.{add-assoc, add-zero, zero-add}
 use native.Mathlib.Numerals.{add-one}
 use native.Mathlib.Omega.{arith}
-use lib.Dec.{eqb}
 use lib.ListN.{length, getD, take, drop, length-drop}
 use lib.Seq.{getD-drop, take-suc}
 use borrow.Author.Tests.{eq-eqb, ne-eqb}
 use Rattle.letters.specs.Algebra.{counts, sum}
 use Rattle.letters.specs.Places.{letter}
+use Rattle.letters.proofs.Cases.{eq-or-ne}
 use Rattle.letters.proofs.Places.{letter-inside}
 use Rattle.letters.proofs.Sums.{sum-none-terms, sum-more, sum-same, sum-split, sum-at-most}
 use Rattle.worth.specs.Worth.{worthOf, worth, worthIn}
-
-pub worthOf-at-most : (x : ℕ) → worthOf x ≤ 1
-unfolding worthOf
-worthOf-at-most x = either (eqb x 0)
-  where
-    either : (b : Bool) → cond b 0 1 ≤ 1
-    either true = omega arith
-    either false = omega arith
 
 pub worthOf-zero : (x : ℕ) → x ≡ 0 → worthOf x ≡ 0
 unfolding worthOf
@@ -31,6 +23,9 @@ worthOf-zero x e = simp (eq-eqb x 0 e)
 pub worthOf-one : (x : ℕ) → (x ≡ 0 → ⊥) → worthOf x ≡ 1
 unfolding worthOf
 worthOf-one x ne = simp (ne-eqb x 0 ne)
+
+pub worthOf-at-most : (x : ℕ) → worthOf x ≤ 1
+worthOf-at-most x = ⊎-elim (λ e. omega (arith, worthOf-zero x e)) (λ ne. omega (arith, worthOf-one x ne)) (eq-or-ne x 0)
 
 -- a run by its first letters, one more and in two parts
 module _ (xs : List ℕ) (start : ℕ) where

@@ -35,7 +35,7 @@ same-length c = search needs
 
 returns-2 : tie.Need-returns-2
 returns-2 c = let s = c .before .before .before .before .before .before .before .before .before .before .before in
-    run-pulled (s .args .g) (s .args .ids .now) (s .args .rows .now) (s .args .v) (s .args .w) (s .pre .0) (s .args .buffer .now) (s .pre .1) (s .args .u) (omega arith) (omega arith) (s .args .end) _ _ _ (omega arith) (c .before .before .before .before .before .before .before .moved-by .ensures .0) (c .before .before .before .before .before .free-start .ensures .0) (c .before .before .before .before .free-start2 .ensures .0) _ (omega arith) (c .before .before .add-within .ensures)
+    run-pulled (s .args .g) (s .args .ids .now) (s .args .rows .now) (s .args .v) (s .args .w) (s .pre .0) (s .args .buffer .now) (s .pre .1) (s .args .u) (omega arith) (omega arith) (s .args .end) _ _ _ (omega arith) (c .before .before .before .before .before .before .before .moved-by .ensures .0) (c .before .before .before .before .before .free-start .ensures .0) (c .before .before .before .before .free-start2 .ensures .0) _ (omega arith) (c .before .before .add-within .ensures .0)
 
 pub pull-run-spec : {M : Type 1} → statement M
 pull-run-spec =

@@ -27,7 +27,7 @@ returns-2 : tie.Need-returns-2
 returns-2 c =
     let a = c .before .before .before .before .before .before .args in
     let pre = c .before .before .before .before .before .before .pre in
-    added-laid (a .part .now) _ (a .to) (a .from) (a .count) (pre .0) (pre .1) (c .before .before .add-within .ensures)
+    added-laid (a .part .now) _ (a .to) (a .from) (a .count) (pre .0) (pre .1) (c .before .before .add-within .ensures .0)
 
 pub add-spec : {M : Type 1} → statement M
 add-spec =

@@ -39,9 +39,11 @@ returns : tie.Need-returns
 returns c =
     let a = c .before .before .before .before .before .before .before .before .before .before .before .args in
     let s = c .before .before .before .before .before .before in
-    let lent = take (length (a .run .now) - 0) (a .run .now) in
-    added-whole xors (a .into .now) _ _ (a .at) lent _ (in-run _ _ _ (s .add-rests .ensures .1)) (s .add-rests .ensures .0) (c .before .before .add-blocks .ensures)
-    ∙ ap (added xors (a .into .now) (a .at)) (itself (a .run .now))
+    let lent = take (length (a .run .now) - 0) (a .run .now) in (
+      added-whole xors (a .into .now) _ _ (a .at) lent _ (in-run _ _ _ (s .add-rests .ensures .1)) (s .add-rests .ensures .0) (c .before .before .add-blocks .ensures)
+          ∙ ap (added xors (a .into .now) (a .at)) (itself (a .run .now)),
+      ap length (itself (a .run .now)),
+    )
 
 pub add-run-spec : {M : Type 1} → statement M
 add-run-spec =

@@ -1,5 +1,5 @@
 -- `letters::add_within` meets its contract: the rests are in first, and then the blocks that are left.
-use mathlib.Core.Path.{_≡_, ap, _∙_}
+use mathlib.Core.Path.{_≡_, refl, ap, _∙_}
 use Prim.Native.Nat.{_+_, _-_}
 use native.Mathlib.Omega.{arith}
 use Rattle.letters.proofs.Apart.{after, begun, then, whole}
@@ -38,10 +38,12 @@ returns c =
     let fits = entry .pre .1 in
     let inside = in-run _ _ _ (s .add-rests .ensures .1) in
     let all : i + (a .count - i) ≡ a .count = omega (arith, inside) in
-    let first = begun (a .buffer .now) (a .to) (a .from) (a .count) apart fits _ i inside (s .add-rests .ensures .0) in
-    then (a .buffer .now) (a .to) (a .from) (a .count) apart fits _ _ i (a .count - i) (omega (arith, all)) first (c .before .before .add-blocks .ensures)
-    ∙ ap (after (a .buffer .now) (a .to) (a .from) (a .count)) all
-    ∙ whole (a .buffer .now) (a .to) (a .from) (a .count) apart fits
+    let first = begun (a .buffer .now) (a .to) (a .from) (a .count) apart fits _ i inside (s .add-rests .ensures .0) in (
+      then (a .buffer .now) (a .to) (a .from) (a .count) apart fits _ _ i (a .count - i) (omega (arith, all)) first (c .before .before .add-blocks .ensures)
+          ∙ ap (after (a .buffer .now) (a .to) (a .from) (a .count)) all
+          ∙ whole (a .buffer .now) (a .to) (a .from) (a .count) apart fits,
+      refl,
+    )
 
 pub add-within-spec : {M : Type 1} → statement M
 add-within-spec =

@@ -24,7 +24,7 @@ same-length : tie.Need-same-length
 same-length c = search needs
 
 returns : tie.Need-returns
-returns c = (c .before .before .before .add-run .ensures, c .count .ensures ∙ whole _)
+returns c = (c .before .before .before .add-run .ensures .0, c .count .ensures ∙ whole _)
 
 pub add-run-spec : {M : Type 1} → statement M
 add-run-spec = tie.close (tie.spec add-run-requires count-requires same-length returns)

@@ -16,7 +16,7 @@ same-length : tie.Need-same-length
 same-length c = search needs
 
 returns : tie.Need-returns
-returns c = (c .before .before .add-within .ensures, c .before .before .before .before .count .ensures ∙ sym (worth-run _ _ _ (omega arith)))
+returns c = (c .before .before .add-within .ensures .0, c .before .before .before .before .count .ensures ∙ sym (worth-run _ _ _ (omega arith)))
 
 pub add-within-spec : {M : Type 1} → statement M
 add-within-spec = tie.close (tie.spec count-requires add-within-requires same-length returns)

@@ -44,7 +44,7 @@ add-run-requires c κs = let s = c .before .before .before .before .before .befo
     simp length-take (omega (arith, c .before .before .shift-in .ensures, shift-rises (s .args .node) (s .args .row) (s .args .g .d) (omega arith) (omega arith) (omega arith)))
 
 same-length : tie.Need-same-length
-same-length c = ap length (c .before .before .add-run .ensures) ∙ simp length-added
+same-length c = ap length (c .before .before .add-run .ensures .0) ∙ simp length-added
 
 returns-2 : tie.Need-returns-2
 unfolding entryStart
@@ -56,7 +56,7 @@ returns-2 c = let s = c .before .before .before .before .before .before .before 
     (λ p.
     ap (λ m. letter 0 (s .args .file .now) m (s .args .g .l) p) starts
     ∙ entry-letter xors (s .args .g) (s .args .file .now) (s .args .row) (s .args .column) p upper)
-    (seen-whole _ _ _ _ (c .before .before .add-run .ensures))
+    (seen-whole _ _ _ _ (c .before .before .add-run .ensures .0))
 
 pub add-entry-spec : {M : Type 1} → statement M
 add-entry-spec =

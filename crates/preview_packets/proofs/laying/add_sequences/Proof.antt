@@ -67,7 +67,7 @@ loop-again : tie.Need-loop-again Inv-loop μ-loop
 loop-again c =
     let s = c .before .before .before .before .before .before .before .before .before .before .before .before .before .before .before in
     let l = c .before .before .before .before .before .before .before .before .loop in
-    let seen = seen-whole _ _ _ _ (c .before .before .add-run .ensures) in (
+    let seen = seen-whole _ _ _ _ (c .before .before .add-run .ensures .0) in (
       omega arith,
       seen .same-length ∙ l .inv .1,
       ap (λ m. m + s .args .node) (l .inv .2) ∙ next-shift (s .args .node) (l .u),

@@ -33,7 +33,7 @@ same-length c = search needs
 returns-2 : tie.Need-returns-2
 returns-2 c = let s = c .before .before .before .before .before .before .before .before .before in
     seen-at (s .args .run .now) (s .args .into .now) (c .before .before .add-run .last .0) (s .args .ahead) _ (omega arith) (c .before .before .before .before .before .lesser .ensures)
-    (c .before .before .add-run .ensures)
+    (c .before .before .add-run .ensures .0)
 
 pub add-at-spec : {M : Type 1} → statement M
 add-at-spec =

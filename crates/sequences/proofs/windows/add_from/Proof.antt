@@ -37,7 +37,7 @@ same-length c = search needs
 returns-2 : tie.Need-returns-2
 returns-2 c = let s = c .before .before .before .before .before .before .before .before .before in
     seen-from (s .args .run .now) (s .args .into .now) (c .before .before .add-run .last .0) (s .args .behind) _ _ (omega arith) (c .before .before .before .before .before .lesser .ensures) refl
-    (c .before .before .add-run .ensures)
+    (c .before .before .add-run .ensures .0)
 
 pub add-from-spec : {M : Type 1} → statement M
 add-from-spec =

@@ -19,7 +19,7 @@ same-length : tie.Need-same-length
 same-length c = search needs
 
 returns : tie.Need-returns
-returns c = laid-added _ _ _ _ _ _ (omega arith) (added-laid _ _ _ _ _ (omega arith) (omega arith) (c .before .before .add-within .ensures))
+returns c = laid-added _ _ _ _ _ _ (omega arith) (added-laid _ _ _ _ _ (omega arith) (omega arith) (c .before .before .add-within .ensures .0))
 
 returns-2 : tie.Need-returns-2
 returns-2 c = added-nothing _ _ _ _ _ (omega arith)
