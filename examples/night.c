@@ -64,7 +64,7 @@ static void rebuild(void) {
     }
     must(dulvaspen_repair(N, K, D, L, 2, helpers, D, rebuilt, D * piece, &count), "repair");
     store(2, rebuilt);
-    printf("disk 2 rebuilt from %d pieces of %u letters, %u additions\n", D, (unsigned)piece, (unsigned)count);
+    printf("disk 2 rebuilt from %d pieces of %u letters, %u letters added that are not zero\n", D, (unsigned)piece, (unsigned)count);
 }
 
 /* The batch from 4, the rebuilt 2, and 1. */
@@ -80,7 +80,7 @@ static void recover(void) {
         }
     }
     must(dulvaspen_recover(N, K, D, L, ids, K, buffer, letters, &count), "recover");
-    printf("batch of %u letters recovered from disks 4, 2 and 1, %u additions\n", (unsigned)letters, (unsigned)count);
+    printf("batch of %u letters recovered from disks 4, 2 and 1, %u letters added that are not zero\n", (unsigned)letters, (unsigned)count);
 }
 
 int main(void) {

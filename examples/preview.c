@@ -70,7 +70,7 @@ int main(void) {
     expect(found == K && ids[0] == 5 && ids[1] == 3 && ids[2] == 1, "not the disks that hold the preview");
     for (uint64_t rank = 1; rank <= K; rank++) collect(ids[rank - 1], rank);
     must(dulvaspen_preview_recover(N, K, L, ids, K, buffer, letters, &count), "preview_recover");
-    printf("preview read from disks 5, 3 and 1, %u additions\n", (unsigned)count);
+    printf("preview read from disks 5, 3 and 1, %u letters added that are not zero\n", (unsigned)count);
     expect(!memcmp(buffer, preview, letters), "the preview is not what it was");
     printf("exactly as it was\n");
     return 0;

@@ -69,7 +69,7 @@ print("Disk 5 fills up: its share has 145 of 146 bytes, judged unfinished, so it
 print(f"Disks 2 and 5 are lost: zeros in their place are judged malformed {short(judge([0] * 146))}.")
 piece = L + t(2, D)
 print(f"Disk 2 is rebuilt from disks 6, 4, 3 and 1: they send {D * piece} letters, where the whole batch has {batch}; "
-      f"letter additions: {additions(D, piece, [6, 4, 3, 1], t, packets(2))}.")
+      f"letters added that are not zero: {additions(D, piece, [6, 4, 3, 1], t, packets(2))}.")
 print("  Its packets are letter for letter what they were; its share is judged complete.")
-print(f"The batch is recovered from disks 4, 2 and 1: they send {batch} letters, no more than it has; letter additions: {recovering([4, 2, 1])}.")
+print(f"The batch is recovered from disks 4, 2 and 1: they send {batch} letters, no more than it has; letters added that are not zero: {recovering([4, 2, 1])}.")
 print("  It is the batch, letter for letter.")

@@ -43,9 +43,9 @@ fn main() {
   disk #: # letters in a share of # bytes, judged {complete|unfinished|malformed}
 Disk 5 fills up: its share has 145 of 146 bytes, judged {complete|unfinished|malformed # at #}, so it is never read as whole.
 Disks 2 and 5 are lost: zeros in their place are judged {complete|unfinished|malformed # at #}.
-Disk 2 is rebuilt from disks 6, 4, 3 and 1: they send # letters, where the whole batch has #; letter additions: #.
+Disk 2 is rebuilt from disks 6, 4, 3 and 1: they send # letters, where the whole batch has #; letters added that are not zero: #.
   Its packets are {letter for letter|NOT} what they were; its share is judged {complete|unfinished|malformed}.
-The batch is recovered from disks 4, 2 and 1: they send # letters, no more than it has; letter additions: #.
+The batch is recovered from disks 4, 2 and 1: they send # letters, no more than it has; letters added that are not zero: #.
   It is {the batch, letter for letter|NOT the batch}.
 ",
     );
