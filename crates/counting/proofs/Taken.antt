@@ -1,11 +1,11 @@
 -- A run without what falls outside at one of its ends has as many letters that aren't zero as there are terms.
-use mathlib.Core.Path.{_≡_, refl, sym, ap, _∙_}
+use mathlib.Core.Path.{_≡_, sym, ap, _∙_}
 use mathlib.Core.List.{List}
 use mathlib.Core.Logic.{⊎-elim}
 use Prim.Native.Nat.{ℕ, _+_, _-_, _*_, _≤_, _<_}
 use native.Mathlib.Nat.{zero-add}
 use native.Mathlib.Omega.{arith}
-use lib.ListN.{length, getD}
+use lib.ListN.{getD}
 use borrow.Author.Tests.{eq-eqb, ne-eqb}
 use Rattle.letters.specs.Algebra.{counts, sum}
 use Rattle.letters.specs.Places.{letter}
@@ -15,7 +15,7 @@ use Rattle.letters.proofs.Sums.{sum-same, sum-swap}
 use Rattle.worth.specs.Worth.{worthOf, worthIn}
 use Rattle.worth.proofs.Worth.{worth-in-join}
 use Rattle.system.specs.System.{sequence}
-use Rattle.system.specs.Count.{terms, additions, other, distance}
+use Rattle.system.specs.Count.{additions, other, distance}
 use Rattle.system.proofs.Terms.{but-first, but-last}
 use Rattle.system.proofs.Cost.{terms-at-most}
 use Rattle.equation.specs.Rows.{shiftIn}
@@ -86,9 +86,6 @@ module _ (buffer : List ℕ) (start n : ℕ) where
       where
         size : n ≡ n - outside + outside
         size = omega arith
-
-    pub left-none : (from : ℕ) → n ≤ outside → LeftOf buffer start n from outside 0
-    left-none from h = record { none = λ q. refl; rest = λ q. absurd (omega arith) }
 
     pub left-rest : (from r : ℕ) → outside < n → r ≡ worthIn buffer from outside → r ≤ whole → LeftOf buffer start n from outside (whole - r)
     left-rest from r h e le = record { none = λ q. absurd (omega arith); rest = λ q. omega (arith, run .all) }

@@ -1,18 +1,16 @@
 -- All terms by the entries whose letters they take are the terms of document 01's two sums (docs/SCHEME.md, 8): those of solving are gone through by sequences and not by equations, and
 -- those that take out are found with the column that they take.
-use mathlib.Core.Path.{_≡_, refl, sym, ap, ap₂, _∙_}
-use mathlib.Core.Bool.{cond}
+use mathlib.Core.Path.{_≡_, sym, ap, ap₂, _∙_}
 use mathlib.Core.List.{List}
 use mathlib.Core.Logic.{⊎-elim}
 use Prim.Native.Nat.{ℕ, _+_, _-_, _*_, _≤_, _<_, min}
 use native.Mathlib.Nat.{zero-add, add-zero}
 use native.Mathlib.Omega.{arith}
-use lib.Dec.{leb}
 use borrow.Author.Tests.{le-leb, lt-leb}
 use Rattle.letters.specs.Algebra.{xors, counts, sum}
 use Rattle.letters.specs.Places.{letter}
 use Rattle.letters.proofs.Cases.{le-or-lt}
-use Rattle.letters.proofs.Sums.{sum-same, sum-plus, sum-none, sum-swap, sum-more, sum-first, sum-none-terms}
+use Rattle.letters.proofs.Sums.{sum-same, sum-plus, sum-swap, sum-more, sum-first, sum-none-terms}
 use Rattle.shifts.specs.Rule.{t}
 use Rattle.system.specs.System.{sequence}
 use Rattle.system.specs.Count.{terms, additions, other}

@@ -3,7 +3,7 @@
 use group::Group;
 use matrix::entries;
 ghost use mathlib.Core.Path.{_≡_};
-ghost use Prim.Native.Nat.{_+_, _-_, _*_, _^_, _≤_, min};
+ghost use Prim.Native.Nat.{_+_, _-_, _*_, _≤_, min};
 ghost use Rattle.matrix.specs.Matrix.{entryNumber};
 ghost use Rattle.matrix.specs.Counts.{recoveryCount};
 ghost use Rattle.counting.specs.Steps.Taken.{Counted};

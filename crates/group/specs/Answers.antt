@@ -71,8 +71,8 @@ pub record Called (refusal value : ℕ) (right before after : List ℕ) (r : Ans
   pub answer : Answers r refusal value
   pub holds : after ≡ ifFine refusal right before
 
--- A call that solves in place: what its buffer holds at exit gives what it held at entry, and the answer is what that is worth; a refused call leaves it as it was.
-pub record SolvesInPlace (refusal : ℕ) (gives : List ℕ → List ℕ) (worth : List ℕ → ℕ) (before after : List ℕ) (r : Answer) : Type 0 where
-  pub answer : Answers r refusal (worth after)
+-- A call that solves in place: what its buffer holds at exit gives what it held at entry, and the answer is the count of that; a refused call leaves it as it was.
+pub record SolvesInPlace (refusal : ℕ) (gives : List ℕ → List ℕ) (count : List ℕ → ℕ) (before after : List ℕ) (r : Answer) : Type 0 where
+  pub answer : Answers r refusal (count after)
   pub same-length : length after ≡ length before
   pub holds : ifFine refusal (gives after) after ≡ before

@@ -9,7 +9,7 @@ use Rattle.letters.proofs.Sums.{sum-same, sum-below}
 use Rattle.worth.specs.Worth.{NoZero}
 use Rattle.shifts.specs.Rule.{t}
 use Rattle.system.specs.System.{sequence}
-use Rattle.system.specs.Count.{terms, additions, cost, distance}
+use Rattle.system.specs.Count.{additions, cost, distance}
 use Rattle.system.proofs.System.{sequence-inside}
 use Rattle.system.proofs.Cost.{terms-at-most, terms-all, additions-at-most, additions-all, sequences-no-zero}
 use Rattle.group.specs.declared.Group.{Group}

@@ -20,7 +20,7 @@ unfoldable pub previewRecoverRefusal : Group → List ℕ → ℕ → ℕ
 unfolding previewReadersRefusal
 previewRecoverRefusal g ids buffer = first (previewReadersRefusal g ids) (unless (eqb buffer (previewFile g)) 5)
 
--- reading what the buffer holds at exit gives what it held at entry, and the count is what that is worth; a refused call leaves it as it was
+-- reading what the buffer holds at exit gives what it held at entry, and the count is the number of terms whose letter of that isn't zero; a refused call leaves it as it was
 abbrev pub PreviewRecovered : Group → List ℕ → List ℕ → List ℕ → Answer → Type 0
 PreviewRecovered g ids before after r =
     SolvesInPlace (previewRecoverRefusal g ids (length before)) (λ file. previewReading xors g file ids) (previewCount g ids) before after r

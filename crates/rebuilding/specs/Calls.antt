@@ -28,7 +28,7 @@ unfoldable pub repairRefusal : Group → ℕ → List ℕ → ℕ → ℕ
 unfolding helpersRefusal
 repairRefusal g lost helpers buffer = first (helpersRefusal g lost helpers) (unless (eqb buffer (repairBuffer g lost)) 5)
 
--- what the buffer holds at exit solves the d equations for what it held at entry, and the count is what that is worth; a refused call leaves it as it was
+-- what the buffer holds at exit solves the d equations for what it held at entry, and the count is the number of terms whose letter of that isn't zero; a refused call leaves it as it was
 abbrev pub Repaired : Group → ℕ → List ℕ → List ℕ → List ℕ → Answer → Type 0
 Repaired g lost helpers before after r =
     SolvesInPlace (repairRefusal g lost helpers (length before)) (equations xors g lost helpers) (repairCount g lost helpers) before after r

@@ -22,7 +22,7 @@ unfoldable pub recoverRefusal : Group → List ℕ → ℕ → ℕ
 unfolding readersRefusal
 recoverRefusal g ids buffer = first (readersRefusal g ids) (unless (eqb buffer (fileLetters g)) 5)
 
--- reading what the buffer holds at exit gives what it held at entry, and the count is what that is worth; a refused call leaves it as it was
+-- reading what the buffer holds at exit gives what it held at entry, and the count is the number of terms whose letter of that isn't zero; a refused call leaves it as it was
 abbrev pub Recovered : Group → List ℕ → List ℕ → List ℕ → Answer → Type 0
 Recovered g ids before after r =
     SolvesInPlace (recoverRefusal g ids (length before)) (λ file. reading xors g file ids) (recoveryCount g ids) before after r

@@ -1,10 +1,9 @@
 -- The terms of one pair: an equation takes all letters of a sequence but those that are moved out of it, which are its first or its last.
-use mathlib.Core.Path.{_≡_, refl, sym, ap, ap₂, _∙_}
-use Prim.Native.Nat.{ℕ, _+_, _-_, _≤_, _<_}
+use mathlib.Core.Path.{_≡_, sym, ap, ap₂, _∙_}
+use Prim.Native.Nat.{ℕ, _+_, _-_, _≤_}
 use native.Mathlib.Nat.{add-comm, zero-add, add-zero}
 use native.Mathlib.Omega.{arith}
 use Rattle.letters.specs.Algebra.{counts, sum}
-use Rattle.letters.specs.Places.{inside}
 use Rattle.letters.proofs.Sums.{sum-same, sum-none, sum-split}
 use Rattle.worth.specs.Worth.{worthOf}
 use Rattle.system.proofs.Within.{within-inside, within-below, within-above}

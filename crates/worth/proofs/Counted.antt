@@ -7,7 +7,7 @@ use native.Mathlib.Omega.{arith}
 use lib.ListN.{getD}
 use Rattle.letters.specs.Steps.Rests.{leftOver}
 use Rattle.letters.proofs.Rests.{no-block, one-block}
-use Rattle.worth.specs.Worth.{worthOf, worthIn}
+use Rattle.worth.specs.Worth.{worthIn}
 use Rattle.worth.specs.Steps.Zeros.{Zeros}
 use Rattle.worth.proofs.Worth.{worthOf-zero, worthOf-one, worth-in-none, worth-in-more, worth-in-join}
 

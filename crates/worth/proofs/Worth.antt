@@ -1,8 +1,8 @@
--- What adding letters is worth: what parts of a run are worth together, and never more than its letters.
-use mathlib.Core.Path.{_≡_, refl, sym, ap, ap₂, _∙_}
+-- What adding letters is worth: at most one each, and of a run what its parts are worth together.
+use mathlib.Core.Path.{_≡_, sym, ap, ap₂, _∙_}
 use mathlib.Core.List.{List, [], _∷_, _++_}
 use mathlib.Core.Logic.{⊎-elim}
-use Prim.Native.Nat.{ℕ, zero, suc, _+_, _-_, _≤_, _<_}
+use Prim.Native.Nat.{ℕ, zero, suc, _+_, _-_, _≤_}
 use native.Mathlib.Nat.{add-assoc, add-zero, zero-add}
 use native.Mathlib.Numerals.{add-one}
 use native.Mathlib.Omega.{arith}
@@ -10,10 +10,8 @@ use lib.ListN.{length, getD, take, drop, length-drop}
 use lib.Seq.{getD-drop, take-suc}
 use borrow.Author.Tests.{eq-eqb, ne-eqb}
 use Rattle.letters.specs.Algebra.{counts, sum}
-use Rattle.letters.specs.Places.{letter}
 use Rattle.letters.proofs.Cases.{eq-or-ne}
-use Rattle.letters.proofs.Places.{letter-inside}
-use Rattle.letters.proofs.Sums.{sum-none-terms, sum-more, sum-same, sum-split, sum-at-most}
+use Rattle.letters.proofs.Sums.{sum-none-terms, sum-more, sum-same, sum-split}
 use Rattle.worth.specs.Worth.{worthOf, worth, worthIn}
 
 pub worthOf-zero : (x : ℕ) → x ≡ 0 → worthOf x ≡ 0
@@ -52,18 +50,6 @@ module _ (xs : List ℕ) (start : ℕ) where
     where
       place : (i : ℕ) → 1 ≤ i → start + (n + i - 1) ≡ start + n + (i - 1)
       place i lo = omega arith
-
-  pub worth-in-at-most : (n : ℕ) → worthIn xs start n ≤ n
-  unfolding worthIn
-  worth-in-at-most n =
-      omega (arith, sum-at-most n 1 (λ p. worthOf (getD xs (start + (p - 1)) 0)) (λ p lo hi. worthOf-at-most (getD xs (start + (p - 1)) 0)))
-
-  -- the same by the run's own places
-  pub worth-in-letters : (n : ℕ) → worthIn xs start n ≡ sum counts n (λ p. worthOf (letter 0 xs start n p))
-  unfolding worthIn
-  worth-in-letters n =
-      sum-same counts n (λ p. worthOf (getD xs (start + (p - 1)) 0)) (λ p. worthOf (letter 0 xs start n p))
-      (λ p lo hi. ap worthOf (sym (letter-inside 0 xs start n p lo hi)))
 
 pub worth-append : (xs ys : List ℕ) → worth (xs ++ ys) ≡ worth xs + worth ys
 unfolding worth

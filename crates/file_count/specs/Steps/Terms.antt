@@ -2,7 +2,7 @@
 use mathlib.Core.Path.{_≡_}
 use mathlib.Core.Bool.{cond}
 use mathlib.Core.List.{List}
-use Prim.Native.Nat.{ℕ, _+_, _*_, _^_, _≤_, min}
+use Prim.Native.Nat.{ℕ, _+_, _*_, _^_, min}
 use lib.Dec.{leb}
 use lib.ListN.{length}
 use Rattle.letters.specs.Algebra.{xors, counts, sum}
