@@ -73,18 +73,18 @@ module _ (buffer : List ℕ) (start n : ℕ) where
 
   -- what is left of a counted run
   module _ (whole outside : ℕ) (run : Counted buffer start n whole) where
-    pub part-of-whole : outside ≤ n → worthIn buffer start outside ≤ whole
-    part-of-whole h =
-        omega (arith, run .all, ap (worthIn buffer start) size, worth-in-join buffer start outside (n - outside))
+    -- a part of it, behind its first k letters, has no more of them
+    pub part-of-whole : (k : ℕ) → k + outside ≤ n → worthIn buffer (start + k) outside ≤ whole
+    part-of-whole k h =
+        omega (
+          arith,
+          run .all,
+          ap (worthIn buffer start) size,
+          worth-in-join buffer start (k + outside) (n - (k + outside)),
+          worth-in-join buffer start k outside,
+        )
       where
-        size : n ≡ outside + (n - outside)
-        size = omega arith
-
-    pub end-of-whole : outside ≤ n → worthIn buffer (start + (n - outside)) outside ≤ whole
-    end-of-whole h =
-        omega (arith, run .all, ap (worthIn buffer start) size, worth-in-join buffer start (n - outside) outside)
-      where
-        size : n ≡ n - outside + outside
+        size : n ≡ k + outside + (n - (k + outside))
         size = omega arith
 
     pub left-rest : (from r : ℕ) → outside < n → r ≡ worthIn buffer from outside → r ≤ whole → LeftOf buffer start n from outside (whole - r)

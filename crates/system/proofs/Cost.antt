@@ -3,36 +3,32 @@ use mathlib.Core.Path.{_≡_, sym, ap, _∙_}
 use mathlib.Core.Bool.{Bool, true, false, cond}
 use mathlib.Core.List.{List}
 use mathlib.Core.Logic.{⊎-elim}
-use Prim.Native.Nat.{ℕ, zero, suc, _+_, _-_, _*_, _≤_, _<_}
+use Prim.Native.Nat.{ℕ, _+_, _-_, _*_, _≤_, _<_}
 use native.Mathlib.Omega.{arith}
 use lib.Dec.{eqb}
 use lib.ListN.{length}
 use Rattle.letters.specs.Algebra.{counts, sum}
 use Rattle.letters.specs.Places.{inside}
 use Rattle.letters.proofs.Cases.{le-or-lt}
-use Rattle.letters.proofs.Sums.{sum-same, sum-below}
+use Rattle.letters.proofs.Sums.{sum-same, sum-none, sum-below, sum-constant}
 use Rattle.worth.specs.Worth.{worthOf, NoZero}
 use Rattle.worth.proofs.Worth.{worthOf-at-most, worthOf-one}
-use Rattle.system.proofs.Within.{within-inside, within-below, within-above}
+use Rattle.system.proofs.Within.{within-below, within-above}
+use Rattle.system.proofs.Terms.{all-but-first, all-but-last}
 use Rattle.system.proofs.System.{sequence-inside, index-below}
 use Rattle.system.specs.System.{sequence}
 use Rattle.system.specs.Count.{terms, additions, cost, place, other, within, distance}
 
--- Of the first m of 1..n, moved right by c, those lie inside that are not pushed out above n,
-moved-right : (n c m : ℕ) → m ≤ n → sum counts m (λ p. within n (p + c) 1) ≡ m - ((m + c) - n)
-unfolding sum
-moved-right n c zero h = omega arith
-moved-right n c (suc m) h =
-    ⊎-elim (λ l. omega (arith, moved-right n c m (omega arith), within-inside n (suc m + c) 1 (omega arith) l))
-    (λ l. omega (arith, moved-right n c m (omega arith), within-above n (suc m + c) 1 l)) (le-or-lt (suc m + c) n)
+-- Moved right by c, those of 1..n lie inside that are not pushed out above n, and moved left by c those that are not pushed out below 1: all but c of them.
+moved-right : (n c : ℕ) → sum counts n (λ p. within n (p + c) 1) ≡ n - c
+moved-right n c =
+    ⊎-elim (λ l. omega (arith, all-but-first n c l (λ q. 1), sum-constant n 1, sum-constant c 1))
+    (λ l. sum-none counts n (λ p. within n (p + c) 1) (λ p lo hi. within-above n (p + c) 1 (omega arith)) ∙ omega arith) (le-or-lt c n)
 
--- and moved left by c, those that are not pushed out below 1.
-moved-left : (n c m : ℕ) → m ≤ n → sum counts m (λ p. within n (p - c) 1) ≡ m - c
-unfolding sum
-moved-left n c zero h = omega arith
-moved-left n c (suc m) h =
-    ⊎-elim (λ l. omega (arith, moved-left n c m (omega arith), within-below n (suc m - c) 1 (omega arith)))
-    (λ l. omega (arith, moved-left n c m (omega arith), within-inside n (suc m - c) 1 (omega arith) (omega arith))) (le-or-lt (suc m) c)
+moved-left : (n c : ℕ) → sum counts n (λ p. within n (p - c) 1) ≡ n - c
+moved-left n c =
+    ⊎-elim (λ l. omega (arith, all-but-last n c l (λ q. 1), sum-constant n 1, sum-constant c 1))
+    (λ l. sum-none counts n (λ p. within n (p - c) 1) (λ p lo hi. within-below n (p - c) 1 (omega arith)) ∙ omega arith) (le-or-lt c n)
 
 -- Moved right by d and left by e: all but as many as d and e lie apart.
 pub moved-inside : (n d e : ℕ) → sum counts n (λ p. within n ((p + d) - e) 1) ≡ n - distance e d
@@ -40,11 +36,11 @@ moved-inside n d e =
     ⊎-elim
     (λ h.
     sum-same counts n (λ p. within n ((p + d) - e) 1) (λ p. within n (p + (d - e)) 1) (λ p lo hi. ap (λ q. within n q 1) (right p h))
-    ∙ moved-right n (d - e) n (omega arith)
+    ∙ moved-right n (d - e)
     ∙ omega arith)
     (λ h.
     sum-same counts n (λ p. within n ((p + d) - e) 1) (λ p. within n (p - (e - d)) 1) (λ p lo hi. ap (λ q. within n q 1) (left p h))
-    ∙ moved-left n (e - d) n (omega arith)
+    ∙ moved-left n (e - d)
     ∙ omega arith)
     (le-or-lt e d)
   where
@@ -54,20 +50,10 @@ moved-inside n d e =
     left : (p : ℕ) → d < e → (p + d) - e ≡ p - (e - d)
     left p h = omega arith
 
--- what counts of a place inside, and of the other ranks
-within-most : (n p m k : ℕ) → m ≤ k → within n p m ≤ within n p k
-within-most n p m k h = either (inside n p)
-  where
-    either : (c : Bool) → cond c m 0 ≤ cond c k 0
-    either true = h
-    either false = omega arith
-
-other-most : (a b m k : ℕ) → m ≤ k → other a b m ≤ other a b k
-other-most a b m k h = either (eqb a b)
-  where
-    either : (c : Bool) → cond c 0 m ≤ cond c 0 k
-    either true = omega arith
-    either false = h
+-- what holds in one case of two is at most what holds in it of more
+either-most : (c : Bool) (m k m′ k′ : ℕ) → m ≤ k → m′ ≤ k′ → cond c m m′ ≤ cond c k k′
+either-most true m k m′ k′ h h′ = h
+either-most false m k m′ k′ h h′ = h′
 
 module _ (n : ℕ) (t : ℕ → ℕ → ℕ) (x : ℕ → ℕ) (b a : ℕ) where
   pub terms-at-most : terms n t x b a ≤ n - distance (t b a) (t b b)
@@ -76,7 +62,7 @@ module _ (n : ℕ) (t : ℕ → ℕ → ℕ) (x : ℕ → ℕ) (b a : ℕ) where
       omega (
         arith,
         sum-below n (λ p. within n (place t b p a) (worthOf (x (place t b p a)))) (λ p. within n (place t b p a) 1)
-            (λ p lo hi. within-most n (place t b p a) (worthOf (x (place t b p a))) 1 (worthOf-at-most (x (place t b p a)))),
+            (λ p lo hi. either-most (inside n (place t b p a)) (worthOf (x (place t b p a))) 1 0 0 (worthOf-at-most (x (place t b p a))) (omega arith)),
         moved-inside n (t b b) (t b a),
       )
 
@@ -103,7 +89,7 @@ module _ (s n : ℕ) (t x : ℕ → ℕ → ℕ) where
       sum-below s (λ b. sum counts s (λ a. other a b (terms n t (x a) b a))) (λ b. sum counts s (λ a. other a b (n - distance (t b a) (t b b))))
       (λ b lb hb.
       sum-below s (λ a. other a b (terms n t (x a) b a)) (λ a. other a b (n - distance (t b a) (t b b)))
-      (λ a la ha. other-most a b (terms n t (x a) b a) (n - distance (t b a) (t b b)) (terms-at-most n t (x a) b a)))
+      (λ a la ha. either-most (eqb a b) 0 0 (terms n t (x a) b a) (n - distance (t b a) (t b b)) (omega arith) (terms-at-most n t (x a) b a)))
 
   pub additions-all : ((a q : ℕ) → 1 ≤ a → a ≤ s → 1 ≤ q → q ≤ n → x a q ≡ 0 → ⊥) → additions s n t x ≡ cost s n t
   unfolding additions cost

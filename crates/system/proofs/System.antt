@@ -29,6 +29,11 @@ rank-after a = omega arith
 pub index-below : (s n a p : ℕ) → 1 ≤ a → a ≤ s → 1 ≤ p → p ≤ n → indexOf n a p < s * n
 index-below s n a p la ha lp hp = omega (arith, rows-apart n a (s + 1) la (omega arith), ap (λ m. m * n) (rank-after s))
 
+-- and the sequence after the first a of them with it
+pub sequence-fits : (s n a : ℕ) → a < s → a * n + n ≤ s * n
+sequence-fits s n a h =
+    omega (arith, rows-apart n (a + 1) (s + 1) (omega arith) (omega arith), ap (λ m. m * n) (rank-after a), ap (λ m. m * n) (rank-after s))
+
 module _ {A : Type 0} (none : A) (xs : List A) (n : ℕ) where
   pub sequence-inside : (a p : ℕ) → 1 ≤ p → p ≤ n → sequence none xs n a p ≡ getD xs (indexOf n a p) none
   unfolding sequence

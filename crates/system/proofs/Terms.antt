@@ -24,7 +24,7 @@ module _ (n c : ℕ) (h : c ≤ n) (f : ℕ → ℕ) where
       size = omega arith
 
   -- moved right by c, the first c are taken by none
-  all-but-first : sum counts n (λ p. within n (p + c) (f (p + c))) + sum counts c f ≡ sum counts n f
+  pub all-but-first : sum counts n (λ p. within n (p + c) (f (p + c))) + sum counts c f ≡ sum counts n f
   all-but-first =
       ap (λ m. m + sum counts c f)
       (ap (λ m. sum counts m (λ p. within n (p + c) (f (p + c)))) size
@@ -43,7 +43,7 @@ module _ (n c : ℕ) (h : c ≤ n) (f : ℕ → ℕ) where
       turned p = omega arith
 
   -- moved left by c, the last c
-  all-but-last : sum counts n (λ p. within n (p - c) (f (p - c))) + sum counts c (λ i. f (n - c + i)) ≡ sum counts n f
+  pub all-but-last : sum counts n (λ p. within n (p - c) (f (p - c))) + sum counts c (λ i. f (n - c + i)) ≡ sum counts n f
   all-but-last =
       ap (λ m. m + sum counts c (λ i. f (n - c + i)))
       (ap (λ m. sum counts m (λ p. within n (p - c) (f (p - c)))) size

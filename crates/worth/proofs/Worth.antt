@@ -1,18 +1,15 @@
 -- What adding letters is worth: at most one each, and of a run what its parts are worth together.
-use mathlib.Core.Path.{_≡_, sym, ap, ap₂, _∙_}
-use mathlib.Core.List.{List, [], _∷_, _++_}
+use mathlib.Core.Path.{_≡_, ap, _∙_}
+use mathlib.Core.List.{List}
 use mathlib.Core.Logic.{⊎-elim}
-use Prim.Native.Nat.{ℕ, zero, suc, _+_, _-_, _≤_}
-use native.Mathlib.Nat.{add-assoc, add-zero, zero-add}
-use native.Mathlib.Numerals.{add-one}
+use Prim.Native.Nat.{ℕ, _+_, _-_, _≤_}
 use native.Mathlib.Omega.{arith}
-use lib.ListN.{length, getD, take, drop, length-drop}
-use lib.Seq.{getD-drop, take-suc}
+use lib.ListN.{getD}
 use borrow.Author.Tests.{eq-eqb, ne-eqb}
 use Rattle.letters.specs.Algebra.{counts, sum}
 use Rattle.letters.proofs.Cases.{eq-or-ne}
 use Rattle.letters.proofs.Sums.{sum-none-terms, sum-more, sum-same, sum-split}
-use Rattle.worth.specs.Worth.{worthOf, worth, worthIn}
+use Rattle.worth.specs.Worth.{worthOf, worthIn}
 
 pub worthOf-zero : (x : ℕ) → x ≡ 0 → worthOf x ≡ 0
 unfolding worthOf
@@ -50,19 +47,3 @@ module _ (xs : List ℕ) (start : ℕ) where
     where
       place : (i : ℕ) → 1 ≤ i → start + (n + i - 1) ≡ start + n + (i - 1)
       place i lo = omega arith
-
-pub worth-append : (xs ys : List ℕ) → worth (xs ++ ys) ≡ worth xs + worth ys
-unfolding worth
-worth-append [] ys = sym (zero-add (worth ys))
-worth-append (x ∷ xs) ys = ap (λ n. worthOf x + n) (worth-append xs ys) ∙ sym (add-assoc (worthOf x) (worth xs) (worth ys))
-
--- what a run of a buffer is worth, by its letters there
-pub worth-run : (xs : List ℕ) (start n : ℕ) → start + n ≤ length xs → worth (take n (drop start xs)) ≡ worthIn xs start n
-unfolding worth
-worth-run xs start zero h = sym (worth-in-none xs start)
-worth-run xs start (suc n) h =
-    ap worth (take-suc (drop start xs) n 0 (simp length-drop (omega arith)))
-    ∙ worth-append (take n (drop start xs)) (getD (drop start xs) n 0 ∷ [])
-    ∙ ap₂ _+_ (worth-run xs start n (omega arith)) (add-zero (worthOf (getD (drop start xs) n 0)) ∙ ap worthOf (getD-drop start xs n 0))
-    ∙ sym (worth-in-more xs start n)
-    ∙ ap (worthIn xs start) (add-one n)

@@ -6,7 +6,7 @@ ghost use Prim.Native.Nat.{_+_, _≤_};
 ghost use lib.ListN.{length, take, drop};
 ghost use Rattle.letters.specs.Algebra.{xors};
 ghost use Rattle.letters.specs.Runs.{added};
-ghost use Rattle.worth.specs.Worth.{worth, worthIn};
+ghost use Rattle.worth.specs.Worth.{worthIn};
 
 // How many of the `count` letters of `from` that start at index `start` aren't zero. They must be there: start + count <= from.len().
 pub fn count(from: &[u8], start: usize, count: usize) -> usize
@@ -22,7 +22,7 @@ pub fn count(from: &[u8], start: usize, count: usize) -> usize
 pub fn add_run(into: &mut [u8], at: usize, run: &[u8]) -> usize
     requires { ⌜ at + length (now run) ≤ length (now into) ⌝ }
     ensures letters { λ r. ⌜ now (into .exit) ≡ added xors (now (into .entry)) at (now (run .entry)) ⌝ }
-    ensures count { λ r. ⌜ r ≡ worth (now (run .entry)) ⌝ }
+    ensures count { λ r. ⌜ r ≡ worthIn (now (run .entry)) 0 (length (now (run .entry))) ⌝ }
 {
     letters::add_run(into, at, run);
     count(run, 0, run.len())
@@ -34,7 +34,7 @@ pub fn add_run(into: &mut [u8], at: usize, run: &[u8]) -> usize
 pub fn add_within(buffer: &mut [u8], to: usize, from: usize, count: usize) -> usize
     requires { ⌜ (to + count ≤ from) × (from + count ≤ length (now buffer)) ⌝ }
     ensures letters { λ r. ⌜ now (buffer .exit) ≡ added xors (now (buffer .entry)) to (take count (drop from (now (buffer .entry)))) ⌝ }
-    ensures count { λ r. ⌜ r ≡ worth (take count (drop from (now (buffer .entry)))) ⌝ }
+    ensures count { λ r. ⌜ r ≡ worthIn (now (buffer .entry)) from count ⌝ }
 {
     let worth = self::count(buffer, from, count);
     letters::add_within(buffer, to, from, count);

@@ -1,21 +1,14 @@
 -- `of_solving` meets its contract: after every turn one sequence more is in the sum, which is the same terms in another order.
 use mathlib.Core.Path.{_≡_, sym, ap, ap₂, _∙_}
-use Prim.Native.Nat.{ℕ, _+_, _-_, _*_, _^_, _≤_, _<_}
-use native.Mathlib.Nat.{add-mul, one-mul, mul-le-mul-right}
+use Prim.Native.Nat.{_+_, _-_, _*_, _^_, _≤_}
 use native.Mathlib.Omega.{arith}
 use Rattle.letters.specs.Algebra.{counts, sum}
 use Rattle.letters.proofs.Sums.{sum-more, sum-none-terms}
+use Rattle.system.proofs.System.{sequence-fits}
 use Rattle.counting.specs.Steps.Taken.{othersTerms}
 use Rattle.counting.proofs.Taken.{by-sequences}
 use Rattle.counting.proofs.of_solving.Statement.{statement}
 use Rattle.counting.proofs.of_solving.Tie as tie
-
--- a sequence lies before the end
-sequence-fits : (s n a : ℕ) → a < s → a * n + n ≤ s * n
-sequence-fits s n a h = omega (arith, mul-le-mul-right n (more h), add-mul a 1 n, one-mul n)
-  where
-    more : a < s → a + 1 ≤ s
-    more h = omega arith
 
 abbrev Inv-loop : tie.InvT-loop
 Inv-loop part s n rows count₀ a₀ count a =
