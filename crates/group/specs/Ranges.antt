@@ -23,7 +23,7 @@ mostPackets = 15
 
 -- the most letters in a sequence
 abbrev pub longest : ℕ
-longest = 4096
+longest = 1048576
 
 -- the most that a node moves a column, t(16,15)
 abbrev pub widest : ℕ
@@ -44,7 +44,7 @@ mostSequences = mostPackets * mostPackets
 unfoldable pub numbersInRange : Group → Bool
 numbersInRange g = both (between 3 mostNodes (g .n)) (both (between 2 (g .d) (g .k)) (leb (g .d) (g .n - 1)))
 
--- L is 1 to 4,096
+-- L is 1 to 1,048,576
 unfoldable pub lengthInRange : Group → Bool
 lengthInRange g = between 1 longest (g .l)
 

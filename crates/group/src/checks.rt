@@ -31,7 +31,7 @@ pub fn numbers_in_range(g: Group) -> bool
 }
 
 // The most letters in a sequence.
-pub const LONGEST: usize = 4096;
+pub const LONGEST: usize = 1048576;
 
 // L is one of 1..LONGEST.
 pub fn length_in_range(g: Group) -> bool

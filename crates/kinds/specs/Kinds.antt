@@ -2,7 +2,7 @@
 -- The body of every kind is n, k, d, node, one byte each, L, and the batch, four bytes. A later kind is a row more.
 use mathlib.Core.Bool.{Bool, cond}
 use Prim.Native.Nat.{ℕ, _+_, _-_, _≤_}
-use lib.Dec.{eqb}
+use lib.Dec.{leb, eqb}
 use Rattle.letters.specs.Places.{either}
 use Rattle.group.specs.declared.Group.{Group}
 use Rattle.group.specs.Answers.{ifFine}
@@ -25,19 +25,38 @@ pub record KindRow : Type 0 where
   pub refusal : Group → ℕ → ℕ
   pub letters : Group → ℕ → ℕ
 
--- Kind 1, the packets of the repairing code: k <= d <= n-1, L of two bytes, T = d(L + t(i,d)).
-abbrev pub repairing : KindRow
-repairing =
+-- The packets of the repairing code have two kinds: 1 where L is at most this, and 6 where it is more.
+abbrev pub longestOfKindOne : ℕ
+longestOfKindOne = 4096
+
+abbrev pub kindForLength : ℕ → ℕ
+kindForLength l = cond (leb l longestOfKindOne) 1 6
+
+-- the refusals of a node's packets as this kind: 1, 2 and 3 where it serves their L, and else 2
+unfoldable pub packetsRefusal : ℕ → Group → ℕ → ℕ
+packetsRefusal kind g i = cond (eqb kind (kindForLength (g .l))) (nodeRefusal g i) 2
+
+-- the packets of the repairing code as this kind: k <= d <= n-1, L in so many bytes and in this range, T = d(L + t(i,d))
+abbrev pub packetsRow : (kind bytes least most : ℕ) → KindRow
+packetsRow kind bytes least most =
     record {
       mostK = λ n. n - 1;
       leastD = λ n k. k;
       mostD = λ n k. n - 1;
-      lengthBytes = 2;
-      leastL = 1;
-      mostL = longest;
-      refusal = nodeRefusal;
+      lengthBytes = bytes;
+      leastL = least;
+      mostL = most;
+      refusal = packetsRefusal kind;
       letters = nodeLetters;
     }
+
+-- Kind 1: L of two bytes, up to 4,096.
+abbrev pub repairing : KindRow
+repairing = packetsRow 1 2 1 longestOfKindOne
+
+-- Kind 6: L of four bytes, the rest.
+abbrev pub repairingLonger : KindRow
+repairingLonger = packetsRow 6 4 (longestOfKindOne + 1) longest
 
 -- Kind 5, a packet of previews: k <= n, d is 0, L of two bytes, T = L + t(i,k) by the previews' rule.
 abbrev pub previews : KindRow
@@ -62,18 +81,18 @@ noKind =
       mostD = λ n k. n - 1;
       lengthBytes = 2;
       leastL = 1;
-      mostL = longest;
+      mostL = longestOfKindOne;
       refusal = λ g i. 1;
       letters = λ g i. 1;
     }
 
 -- the table
 unfoldable pub rowForKind : ℕ → KindRow
-rowForKind kind = cond (eqb kind 1) repairing (cond (eqb kind 5) previews noKind)
+rowForKind kind = cond (eqb kind 1) repairing (cond (eqb kind 5) previews (cond (eqb kind 6) repairingLonger noKind))
 
 -- the kinds of head that there are
 unfoldable pub isKind : ℕ → Bool
-isKind kind = either (eqb kind 1) (eqb kind 5)
+isKind kind = either (eqb kind 1) (either (eqb kind 5) (eqb kind 6))
 
 -- The numbers of a head are in the ranges of a row.
 pub record InRow (row : KindRow) (g : Group) (i : ℕ) : Type 0 where

@@ -9,14 +9,20 @@ use preview_numbers::checks as previews;
 ghost use mathlib.Core.Path.{_≡_};
 ghost use Prim.Native.Nat.{_-_};
 ghost use Rattle.group.specs.Answers.{checkNumber, valueOf};
-ghost use Rattle.kinds.specs.Kinds.{isKind, rowForKind, rowTotal, headSize};
-ghost use Rattle.kinds.specs.Steps.Rows.{limitsAt};
+ghost use Rattle.kinds.specs.Kinds.{isKind, kindForLength, packetsRow, rowForKind, rowTotal, headSize};
+ghost use Rattle.kinds.specs.Steps.Rows.{limitsIn, limitsAt};
 
-// A node's packets of the repairing code.
+// A node's packets of the repairing code, of sequences up to LONGEST_OF_KIND_ONE.
 pub const REPAIRING: usize = 1;
 
 // A node's packet of previews.
 pub const PREVIEWS: usize = 5;
+
+// A node's packets of the repairing code, of longer sequences.
+pub const REPAIRING_LONGER: usize = 6;
+
+// The most letters in a sequence of kind 1; where there are more, the kind is 6.
+const LONGEST_OF_KIND_ONE: usize = 4096;
 
 // What a kind says of k, d and L, where n and k are known: the most k, the range of d, the bytes of L in the body, and the range of L.
 pub struct Limits {
@@ -32,10 +38,21 @@ pub struct Limits {
 pub fn is_kind(kind: usize) -> bool
     ensures { λ r. ⌜ r ≡ isKind kind ⌝ }
 {
-    if kind == REPAIRING {
-        return true;
+    match kind {
+        REPAIRING => true,
+        PREVIEWS => true,
+        _ => kind == REPAIRING_LONGER,
     }
-    kind == PREVIEWS
+}
+
+// The kind that a node's packets have by their L: writing chooses by it, and no other kind serves them.
+pub fn for_length(l: usize) -> usize
+    ensures { λ r. ⌜ r ≡ kindForLength l ⌝ }
+{
+    if l <= LONGEST_OF_KIND_ONE {
+        return REPAIRING;
+    }
+    REPAIRING_LONGER
 }
 
 // One less, and 0 for 0.
@@ -46,6 +63,21 @@ fn less_one(x: usize) -> usize
         return 0;
     }
     x - 1
+}
+
+// The ranges of packets of the repairing code, with L in so many bytes and in this range.
+fn packets_limits(n: usize, k: usize, bytes: usize, least: usize, most: usize) -> Limits
+    ensures { λ r. ⌜ r ≡ limitsIn (packetsRow 1 bytes least most) n k ⌝ }
+{
+    let highest = less_one(n);
+    Limits {
+        most_k: highest,
+        least_d: k,
+        most_d: highest,
+        length_bytes: bytes,
+        least_l: least,
+        most_l: most,
+    }
 }
 
 // The ranges of a kind. What is no kind has those of kind 1: no byte of it is looked at.
@@ -62,15 +94,10 @@ pub fn limits_of(kind: usize, n: usize, k: usize) -> Limits
             most_l: previews::LONGEST_PREVIEW,
         };
     }
-    let most = less_one(n);
-    Limits {
-        most_k: most,
-        least_d: k,
-        most_d: most,
-        length_bytes: 2,
-        least_l: 1,
-        most_l: checks::LONGEST,
+    if kind == REPAIRING_LONGER {
+        return packets_limits(n, k, 4, LONGEST_OF_KIND_ONE + 1, checks::LONGEST);
     }
+    packets_limits(n, k, 2, 1, LONGEST_OF_KIND_ONE)
 }
 
 // The bytes of a head of this kind, the kind included.
@@ -85,13 +112,15 @@ pub fn head_size(kind: usize) -> usize
 pub fn check(kind: usize, g: Group, node: usize) -> Check
     ensures { λ r. ⌜ checkNumber r ≡ rowForKind kind .refusal g node ⌝ }
 {
-    if kind == REPAIRING {
+    if kind == for_length(g.l) {
         return checks::node(g, node);
     }
-    if kind == PREVIEWS {
-        return previews::node(g, node);
+    match kind {
+        PREVIEWS => previews::node(g, node),
+        REPAIRING => Check::Refused(Refusal::Length),
+        REPAIRING_LONGER => Check::Refused(Refusal::Length),
+        _ => Check::Refused(Refusal::Numbers),
     }
-    Check::Refused(Refusal::Numbers)
 }
 
 // The value of an answer; a refusal carries 0.
@@ -108,7 +137,7 @@ fn value_of(answer: Answer) -> usize
 pub fn total(kind: usize, g: Group, node: usize) -> usize
     ensures { λ r. ⌜ r ≡ rowTotal (rowForKind kind) g node ⌝ }
 {
-    if kind == REPAIRING {
+    if kind == for_length(g.l) {
         return value_of(lengths::packet_letters(g, node));
     }
     if kind == PREVIEWS {

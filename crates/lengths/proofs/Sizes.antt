@@ -46,8 +46,8 @@ module _ (g : Group) (i : ℕ) (r : NodeOf g i) where
   unfolding nodeLetters
   node-at-most = mul-le-mul {n₂ = mostPackets} {m₂ = longestPacket} (omega arith) packet-at-most
 
-  -- document 01 (docs/SCHEME.md, 4): T is at most 64,590
-  pub most-letters : nodeLetters g i ≤ 64590
+  -- documents 01 and 02, Ask 6 (docs/SCHEME.md, 4): T is at most 15,731,790, and at most 64,590 where L is at most 4,096
+  pub most-letters : nodeLetters g i ≤ 15731790
   most-letters = node-at-most
 
   -- and it holds some

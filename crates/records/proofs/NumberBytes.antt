@@ -3,7 +3,7 @@ use mathlib.Core.Path.{_≡_, refl, ap, ap₂, _∙_}
 use mathlib.Core.List.{List}
 use mathlib.Core.Logic.{_↔_}
 use Prim.Native.Nat.{ℕ, zero, suc, _+_, _-_, _*_, _/_, _%_, _^_, _≤_, _<_}
-use native.Mathlib.Nat.{add-zero, pow-succ'}
+use native.Mathlib.Nat.{add-zero, mul-assoc, pow-succ'}
 use native.Mathlib.Omega.{arith}
 use lib.ListN.{length, getD}
 use Rattle.records.specs.Records.{number, numberIn}
@@ -68,6 +68,15 @@ pub number-below : (s at : ℕ) (xs : List ℕ) → BytesFrom xs at s → number
 number-below zero at xs b = omega arith
 number-below (suc s) at xs b =
     omega (arith, number-below s (suc at) xs (bytes-on xs at s b), pow-succ' 256 s, first-index xs at, b .below 0 (omega arith))
+
+-- a last byte more
+pub number-last : (s at : ℕ) (xs : List ℕ) → numberIn (suc s) at xs ≡ numberIn s at xs + 256 ^ s * getD xs (at + s) 0
+number-last zero at xs = omega (arith, first-index xs at)
+number-last (suc s) at xs =
+    let last = getD xs (at + suc s) 0 in
+    let carried : 256 ^ suc s * last ≡ 256 * (256 ^ s * last) = ap (λ p. p * last) (pow-succ' 256 s) ∙ mul-assoc 256 (256 ^ s) last in
+    let rest = number-last s (suc at) xs ∙ ap (λ b. numberIn s (suc at) xs + 256 ^ s * b) (next-index xs at s) in
+    omega (arith, carried, rest)
 
 pub number-own : (s at : ℕ) (xs : List ℕ) → BytesFrom xs at s → (q : ℕ) → q < s → getD xs (at + q) 0 ≡ getD (number s (numberIn s at xs)) q 0
 number-own zero at xs b q h = absurd (omega arith)

@@ -110,6 +110,18 @@ module _ (s lo hi at : ℕ) (xs : List ℕ) (byte : getD xs at 0 < 256) where
       let rest : (getD xs at 0 + 256 * numberIn s (suc at) xs) / 256 ≡ numberIn s (suc at) xs = omega arith in
       rw (low, rest)
 
+-- the first tests are those of a number of fewer bytes
+pub range-short :
+    (s m lo hi at : ℕ) (xs : List ℕ) (q : ℕ) → ((i : ℕ) → getD xs i 0 < 256) → m ≤ s → q < m
+    → getD (rangeTests s lo hi (numberIn s at xs)) q true ≡ getD (rangeTests m lo hi (numberIn m at xs)) q true
+range-short s zero lo hi at xs q b h l = absurd (omega arith)
+range-short zero (suc m) lo hi at xs q b h l = absurd (omega arith)
+range-short (suc s) (suc m) lo hi at xs zero b h l = first-test s lo hi at xs (b at) ∙ sym (first-test m lo hi at xs (b at))
+range-short (suc s) (suc m) lo hi at xs (suc q) b h l =
+    later-test s lo hi at xs (b at) q
+    ∙ range-short s m (leastLeft lo (getD xs at 0)) (mostLeft hi (getD xs at 0)) (suc at) xs q b (omega arith) (omega arith)
+    ∙ sym (later-test m lo hi at xs (b at) q)
+
 -- after bytes that pass, the most that is left has a lowest byte that does
 pub range-next :
     (s lo hi at : ℕ) (xs : List ℕ) (q : ℕ) → lo ≤ hi → q < s → ((i : ℕ) → i < q → getD xs (at + i) 0 < 256)
@@ -144,7 +156,7 @@ range-next (suc s) lo hi at xs (suc q) some h b t =
 
 -- Where 0 and 255 can both stand, any byte can: so it is for a range that begins at 0 or 1, that has 256 numbers, or that ends below 255; and for what is
 -- left of it.
-pub AnyBetween : ℕ → ℕ → ℕ → Type 0
+unfoldable pub AnyBetween : ℕ → ℕ → ℕ → Type 0
 AnyBetween zero lo hi = Unit {0}
 AnyBetween (suc s) lo hi =
     ((lo ≤ 1) ⊎ ((lo + 255 ≤ hi) ⊎ (hi < 255))) × ((byte : ℕ) → byte < 256 → AnyBetween s (leastLeft lo byte) (mostLeft hi byte))

@@ -14,7 +14,7 @@ use Rattle.layout.specs.Share.{shareOf, ShareOf}
 use Rattle.layout.specs.Judgment.{IsBeginning}
 use Rattle.heads.specs.declared.Head.{Head}
 use Rattle.judging.specs.Judging.{Wrong}
-use Rattle.kinds.specs.Kinds.{rowForKind, headSize}
+use Rattle.kinds.specs.Kinds.{rowForKind, kindForLength, headSize}
 use Rattle.heads.specs.Heads.{heads}
 
 -- What reading these bytes gives, and what the lent buffer then holds: 7 to 12 are decided before 6.
@@ -31,9 +31,9 @@ pub data Reads (xs before : List ℕ) : Outcome Head → List ℕ → Type 0 whe
 unfoldable pub kindBytes : ℕ → Group → ℕ → ℕ
 kindBytes kind g i = sizeFor (headSize kind) (rowForKind kind .letters g i)
 
--- kind 1 holds a node's packets, and kind 5 its packet of previews
+-- kind 1 or 6, by L, holds a node's packets, and kind 5 its packet of previews
 abbrev pub shareBytes : Group → ℕ → ℕ
-shareBytes = kindBytes 1
+shareBytes g i = kindBytes (kindForLength (g .l)) g i
 
 abbrev pub previewBytes : Group → ℕ → ℕ
 previewBytes = kindBytes 5
@@ -63,7 +63,7 @@ Written h letters before r after = Writes h letters before (writeRefusal h (leng
 
 -- the head that writing gives a share of packets, and one of previews
 abbrev pub headFor : Group → ℕ → ℕ → Head
-headFor g node batch = record { group = g; node = node; batch = batch; kind = 1 }
+headFor g node batch = record { group = g; node = node; batch = batch; kind = kindForLength (g .l) }
 
 abbrev pub previewHead : Group → ℕ → ℕ → Head
 previewHead g node batch = record { group = g; node = node; batch = batch; kind = 5 }

@@ -38,7 +38,7 @@ fn bytes_of(kind: usize, g: Group, node: usize) -> Answer
 pub fn share_bytes(g: Group, node: usize) -> Answer
     ensures { λ r. ⌜ Answers r (nodeRefusal g node) (shareBytes g node) ⌝ }
 {
-    bytes_of(kinds::REPAIRING, g, node)
+    bytes_of(kinds::for_length(g.l), g, node)
 }
 
 // The bytes of a node's share of previews. Refusals: 1, 2, 3.
@@ -58,8 +58,8 @@ fn write_head(head: Head, letters: &[u8], share: &mut [u8]) -> Answer
     }
 }
 
-// Writes a node's packets, one after another, as its share. The answer is how many bytes it has. A refused call leaves `share`
-// as it was. Refusals: 1, 2, 3, 5, 6.
+// Writes a node's packets, one after another, as its share, of the kind that serves their L. The answer is how many bytes it has. A refused
+// call leaves `share` as it was. Refusals: 1, 2, 3, 5, 6.
 pub fn write(g: Group, node: usize, batch: u32, packets: &[u8], share: &mut [u8]) -> Answer
     ensures { λ r. ⌜ Written (headFor g node batch) (now (packets .entry)) (now (share .entry)) r (now (share .exit)) ⌝ }
 {
@@ -67,7 +67,7 @@ pub fn write(g: Group, node: usize, batch: u32, packets: &[u8], share: &mut [u8]
         group: g,
         node,
         batch,
-        kind: kinds::REPAIRING,
+        kind: kinds::for_length(g.l),
     };
     write_head(head, packets, share)
 }

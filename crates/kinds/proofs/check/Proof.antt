@@ -1,27 +1,58 @@
--- `check` meets its contract: each kind has its own check, and what is no kind is refused.
+-- `check` meets its contract: the kind that serves an L has the node's refusals, previews have their own, and all else is refused.
+use mathlib.Core.Path.{sym, ap, _∙_}
+use native.Mathlib.Omega.{arith}
 use borrow.Author.Tests.{ne-eqb}
 use Rattle.kinds.specs.Kinds.{rowForKind}
 use borrow.Author.Needs.{needs}
+use Rattle.kinds.proofs.RowLaws.{chosen-refusal, packets-other}
 use Rattle.kinds.proofs.check.Statement.{statement}
 use Rattle.kinds.proofs.check.Tie as tie
+
+for-length-requires : tie.Need-for-length-requires
+for-length-requires c κs = search needs
 
 node-requires : tie.Need-node-requires
 node-requires c κs = search needs
 
 returns : tie.Need-returns
-unfolding rowForKind
-returns c = rw (c .before .if1 .taken) (c .node .ensures)
+returns c =
+    let a = c .before .before .before .args in
+    c .node .ensures ∙ sym (chosen-refusal (a .g) (a .node)) ∙ sym (ap (λ kind. rowForKind kind .refusal (a .g) (a .node)) (c .before .if1 .taken ∙ c .before .before .for-length .ensures))
 
 node-requires-2 : tie.Need-node-requires-2
 node-requires-2 c κs = search needs
 
 returns-2 : tie.Need-returns-2
 unfolding rowForKind
-returns-2 c = rw (c .before .if2 .taken) (c .node2 .ensures)
+returns-2 c = rw (c .before .match .keys1) (c .node2 .ensures)
 
 returns-3 : tie.Need-returns-3
 unfolding rowForKind
-returns-3 c = simp (ne-eqb _ _ (c .before .if1 .left), ne-eqb _ _ (c .if2 .left))
+returns-3 c =
+    let a = c .before .before .before .args in
+    rw (c .match .keys2) (sym (packets-other 1 (a .g) (a .node) (λ e. omega (arith, e, c .before .before .for-length .ensures, c .match .keys2))))
+
+returns-4 : tie.Need-returns-4
+unfolding rowForKind
+returns-4 c =
+    let a = c .before .before .before .args in
+    rw (c .match .keys3) (sym (packets-other 6 (a .g) (a .node) (λ e. omega (arith, e, c .before .before .for-length .ensures, c .match .keys3))))
+
+returns-5 : tie.Need-returns-5
+unfolding rowForKind
+returns-5 c =
+    let kind = c .before .before .before .args .kind in
+    simp (ne-eqb kind 1 (λ e. omega arith), ne-eqb kind 5 (λ e. omega arith), ne-eqb kind 6 (λ e. omega arith))
 
 pub check-spec : {M : Type 1} → statement M
-check-spec = tie.close (tie.spec node-requires returns node-requires-2 returns-2 returns-3)
+check-spec =
+    tie.close
+    (tie.spec
+    for-length-requires
+    node-requires
+    returns
+    node-requires-2
+    returns-2
+    returns-3
+    returns-4
+    returns-5)

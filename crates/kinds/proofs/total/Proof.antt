@@ -1,10 +1,13 @@
--- `total` meets its contract: an answer's value is T where nothing is refused, and what is no kind has no letters.
-use mathlib.Core.Path.{_∙_}
-use borrow.Author.Tests.{ne-eqb}
-use Rattle.kinds.specs.Kinds.{rowForKind}
+-- `total` meets its contract: an answer's value is T where nothing is refused, and what is no kind, or serves another L, has no letters.
+use mathlib.Core.Path.{sym, _∙_}
 use borrow.Author.Needs.{needs}
+use Rattle.kinds.specs.Kinds.{rowForKind}
+use Rattle.kinds.proofs.RowLaws.{total-chosen, total-none}
 use Rattle.kinds.proofs.total.Statement.{statement}
 use Rattle.kinds.proofs.total.Tie as tie
+
+for-length-requires : tie.Need-for-length-requires
+for-length-requires c κs = search needs
 
 packet-letters-requires : tie.Need-packet-letters-requires
 packet-letters-requires c κs = search needs
@@ -13,8 +16,9 @@ value-of-requires : tie.Need-value-of-requires
 value-of-requires c κs = search needs
 
 returns : tie.Need-returns
-unfolding rowForKind
-returns c = rw (c .before .before .if1 .taken) (c .value-of .ensures ∙ c .before .packet-letters .ensures .valued)
+returns c =
+    let a = c .before .before .before .before .args in
+    c .value-of .ensures ∙ c .before .packet-letters .ensures .valued ∙ total-chosen (a .kind) (a .g) (a .node) (c .before .before .if1 .taken ∙ c .before .before .before .for-length .ensures)
 
 packet-letters-requires-2 : tie.Need-packet-letters-requires-2
 packet-letters-requires-2 c κs = search needs
@@ -27,13 +31,15 @@ unfolding rowForKind
 returns-2 c = rw (c .before .before .if2 .taken) (c .value-of2 .ensures ∙ c .before .packet-letters2 .ensures .valued)
 
 returns-3 : tie.Need-returns-3
-unfolding rowForKind
-returns-3 c = simp (ne-eqb _ _ (c .before .if1 .left), ne-eqb _ _ (c .if2 .left))
+returns-3 c =
+    let a = c .before .before .before .args in
+    sym (total-none (a .kind) (a .g) (a .node) (λ e. c .before .if1 .left (e ∙ sym (c .before .before .for-length .ensures))) (c .if2 .left))
 
 pub total-spec : {M : Type 1} → statement M
 total-spec =
     tie.close
     (tie.spec
+    for-length-requires
     packet-letters-requires
     value-of-requires
     returns
