@@ -23,7 +23,9 @@ extern uint64_t bench_count(const uint8_t *from, uint64_t from_len, uint64_t sta
 #define AFTER_CALL(NAME) CALLGRIND_DUMP_STATS_AT(NAME)
 #endif
 
-static uint8_t file[1 << 20], got[1 << 20], want[1 << 20], in_blocks[1 << 20], in_tiles[1 << 20], input[1 << 20], node_packets[17][1 << 17], share[1 << 17];
+/* room for the longest sequences that are measured: 18 of them are a file of [16,4,6], and 6 with some more letters what a node holds */
+enum { FILE_ROOM = 20 << 20, NODE_ROOM = 7 << 20 };
+static uint8_t file[FILE_ROOM], got[FILE_ROOM], want[FILE_ROOM], in_blocks[FILE_ROOM], in_tiles[FILE_ROOM], input[FILE_ROOM], node_packets[17][NODE_ROOM], share[NODE_ROOM];
 static uint64_t held[17], count_ours, count_plain, count_blocks, count_tiles, head_ours[HEAD], head_plain[HEAD], state[DULVASPEN_ARRIVING_WORDS];
 static group g;
 _Static_assert(HEAD == DULVASPEN_HEAD_NUMBERS, "plain C tells another head");
@@ -51,9 +53,13 @@ static void mark(uint64_t number) { if (write(1000, file, number) >= 0) stop("a 
     } \
     if (r_) stop(NAME, r_); } while (0)
 
+/* Sequences that are longer than a head of kind 1 has: beside each call a plain copy of as many bytes as it leaves or looks at. */
+static int is_long(void) { return g.l > 4096; }
+
 /* Says the sizes that the table divides by, once got and want are the same. */
 static void compare(const char *name, uint64_t letters, uint64_t additions) {
     if (memcmp(got, want, letters)) stop(name, 99);
+    if (is_long()) MEASURE(name, "copy", want, letters, plain_copy(want, in_blocks, letters));
     printf("size %s %llu,%llu,%llu %llu %llu %llu\n", name, (unsigned long long)g.n, (unsigned long long)g.k, (unsigned long long)g.d,
            (unsigned long long)g.l, (unsigned long long)letters, (unsigned long long)additions);
 }
@@ -263,6 +269,7 @@ static void shares(void) {
     MEASURE("judge", "plain", want, bytes, plain_judge(share, bytes, head_plain));
     if (memcmp(head_ours, head_plain, sizeof head_ours)) stop("judge", 98);
     compare("judge", bytes, 0);
+    if (is_long()) return;
     ARRIVING("arriving-at-once", bytes);
     ARRIVING("arriving-by-4096", 4096);
     ARRIVING("arriving-by-64", 64);
@@ -335,17 +342,49 @@ static void preview_share(void) {
     damage(bytes);
 }
 
+/* A group's calls, at its L. */
+static void calls(int packets_alone) {
+    uint64_t letters;
+    dulvaspen_file_letters(g.n, g.k, g.d, g.l, &letters);
+    packets(letters);
+    recovery(letters);
+    repair();
+    if (!packets_alone) shares();
+}
+
+/* The smallest share of kind 6: the judges agree on every cut of its head and its last records, and on every byte there that is changed to any other. */
+static void longer_share(void) {
+    uint64_t bytes, letters = 8194;
+    g = (group){3, 2, 2, 4097};
+    dulvaspen_share_bytes(g.n, g.k, g.d, g.l, 1, &bytes);
+    if (dulvaspen_write_share(g.n, g.k, g.d, g.l, 1, 7, file, letters, share, bytes) || plain_write(g, 1, 7, file, letters, want, bytes) || memcmp(share, want, bytes))
+        stop("a longer share", bytes);
+    for (uint64_t at = 0; at <= bytes; at++) {
+        if (at > 80 && at + 140 < bytes) continue;
+        if (dulvaspen_judge_share(share, at, head_ours, HEAD) != plain_judge(share, at, head_plain) || arrive(at, 7) != plain_judge(share, at, head_plain))
+            stop("judging a cut longer share", at);
+        for (int byte = 0; byte < 256; byte++) {
+            uint8_t own = share[at];
+            uint64_t whole = at < bytes ? bytes : bytes + 1;
+            share[at] = (uint8_t)byte;
+            uint64_t r = plain_judge(share, whole, head_plain);
+            if (dulvaspen_judge_share(share, whole, head_ours, HEAD) != r || arrive(whole, 1 + at) != r) stop("judging a changed longer share", at);
+            share[at] = own;
+        }
+    }
+}
+
 int main(int argc, char **argv) {
     static const group groups[] = {{6, 3, 4, 0}, {16, 4, 6, 0}, {16, 10, 12, 0}, {16, 15, 15, 0}}, of_previews[] = {{6, 3, 0, 0}, {16, 10, 0, 0}, {16, 16, 0, 0}};
+    static const group longer[] = {{6, 3, 4, 65536}, {6, 3, 4, 1048576}, {16, 4, 6, 65536}, {16, 4, 6, 1048576}, {16, 15, 15, 65536}};
     static const uint64_t lengths[] = {64, 4096}, run_lengths[] = {7, 64, 100, 4096};
-    uint64_t letters;
     int packets_alone = argc == 3 && !strcmp(argv[2], "packets");
     if (argc != 2 + packets_alone || (strcmp(argv[1], "time") && strcmp(argv[1], "count"))) {
         fprintf(stderr, "bench: say time or count, and then packets or nothing\n");
         return 2;
     }
     timing = !strcmp(argv[1], "time");
-    for (uint64_t i = 0; i < sizeof file; i++) file[i] = (uint8_t)(i * 131 + (i >> 7) * 29 + (i >> 13));
+    for (uint64_t i = 0; i < (packets_alone ? 1 << 20 : FILE_ROOM); i++) file[i] = (uint8_t)(i * 131 + (i >> 7) * 29 + (i >> 13));
     MEASURE("nothing", "ours", got, 0, 0);
     for (int i = 0; i < 4 && !packets_alone; i++) runs(run_lengths[i]);
     if (!packets_alone) short_runs();
@@ -354,12 +393,10 @@ int main(int argc, char **argv) {
         for (int j = 0; j < 2; j++) {
             g = groups[i];
             g.l = lengths[j];
-            dulvaspen_file_letters(g.n, g.k, g.d, g.l, &letters);
-            packets(letters);
-            recovery(letters);
-            repair();
-            if (!packets_alone) shares();
+            calls(packets_alone);
         }
+    for (int i = 0; i < 5 && !packets_alone; i++) { g = longer[i]; calls(0); }
+    if (!packets_alone) longer_share();
     for (int i = 0; i < 3 && !packets_alone; i++) { g = of_previews[i]; odd_previews(); }
     for (int i = 0; i < 3; i++)
         for (int j = 0; j < 2; j++) {

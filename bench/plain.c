@@ -16,7 +16,7 @@ static uint64_t entry(group g, uint64_t v, uint64_t u) { return (before(g.k, u) 
 
 static uint64_t check_group(group g) {
     if (g.n > 16 || g.k < 2 || g.k > g.d || g.d + 1 > g.n) return 1;
-    return g.l < 1 || g.l > 4096 ? 2 : 0;
+    return g.l < 1 || g.l > 1048576 ? 2 : 0;
 }
 static uint64_t check_node(group g, uint64_t node) {
     uint64_t r = check_group(g);
@@ -495,26 +495,31 @@ uint64_t plain_preview_recover_tiles(group g, const uint64_t *ids, uint64_t ids_
 /* ---- shares: block by block, with memcpy ---- */
 static void put(uint8_t *to, uint64_t value, int bytes) { for (int i = 0; i < bytes; i++) to[i] = (uint8_t)(value >> 8 * i); }
 static uint64_t get(const uint8_t *from, int bytes) { uint64_t v = 0; for (int i = 0; i < bytes; i++) v |= (uint64_t)from[i] << 8 * i; return v; }
-static uint64_t share_bytes(uint64_t letters) { return 11 + 65 * ((letters + 63) / 64) + 5; }
+static uint64_t share_bytes(uint64_t head, uint64_t letters) { return head + 65 * ((letters + 63) / 64) + 5; }
+/* A head's L has two bytes, in kind 6 four. */
+static uint64_t head_bytes(int kind) { return kind == 6 ? 13 : 11; }
 
 uint64_t plain_write(group g, uint64_t node, uint32_t batch, const uint8_t *packets, uint64_t packets_len, uint8_t *share, uint64_t share_len) {
     uint64_t r = check_node(g, node), left = packets_len;
     if (r) return r;
+    int kind = g.l > 4096 ? 6 : 1;
+    uint64_t head = head_bytes(kind);
     if (packets_len != node_letters(g, node)) return 5;
-    if (share_len != share_bytes(packets_len)) return 6;
-    *share = 1; share[1] = (uint8_t)g.n; share[2] = (uint8_t)g.k; share[3] = (uint8_t)g.d; share[4] = (uint8_t)node;
-    put(share + 5, g.l, 2); put(share + 7, batch, 4);
-    for (share += 11; left >= 64; left -= 64, packets += 64, share += 65) { *share = 2; memcpy(share + 1, packets, 64); }
+    if (share_len != share_bytes(head, packets_len)) return 6;
+    *share = (uint8_t)kind; share[1] = (uint8_t)g.n; share[2] = (uint8_t)g.k; share[3] = (uint8_t)g.d; share[4] = (uint8_t)node;
+    put(share + 5, g.l, (int)head - 9); put(share + head - 4, batch, 4);
+    for (share += head; left >= 64; left -= 64, packets += 64, share += 65) { *share = 2; memcpy(share + 1, packets, 64); }
     if (left) { *share = 3; memcpy(share + 1, packets, left); memset(share + 1 + left, 0, 64 - left); share += 65; }
     *share = 4; put(share + 1, packets_len, 4);
     return 0;
 }
 
-/* The head, each number tested as soon as it is in: 0, 7 where the bytes end before the head does, 8 for another kind than 1 and 5, or 9. */
+/* The head, each number tested as soon as it is in: 0, 7 where the bytes end before the head does, 8 for another kind than 1, 5 and 6, or 9. Of a kind 6
+ * the first three bytes of L tell whether it is in range, and the fourth is 0. */
 static uint64_t judge_head(const uint8_t *share, uint64_t len, group *g, uint64_t *node) {
     if (len < 1) return 7;
-    if (share[0] != 1 && share[0] != 5) return 8;
-    int preview = share[0] == 5;
+    if (share[0] != 1 && share[0] != 5 && share[0] != 6) return 8;
+    int preview = share[0] == 5, longer = share[0] == 6;
     if (len < 2) return 7;
     if (share[1] < 3 || share[1] > 16) return 9;
     if (len < 3) return 7;
@@ -523,11 +528,12 @@ static uint64_t judge_head(const uint8_t *share, uint64_t len, group *g, uint64_
     if (preview ? share[3] : share[3] < share[2] || share[3] >= share[1]) return 9;
     if (len < 5) return 7;
     if (share[4] < 1 || share[4] > share[1]) return 9;
-    if (len < 7) return 7;
-    *g = (group){share[1], share[2], share[3], get(share + 5, 2)};
+    if (len < 7 + (uint64_t)longer) return 7;
+    *g = (group){share[1], share[2], share[3], get(share + 5, 2 + longer)};
     *node = share[4];
-    if (g->l < 1 || g->l > 4096) return 9;
-    return len < 11 ? 7 : 0;
+    if (longer ? g->l <= 4096 || g->l > 1048576 : g->l < 1 || g->l > 4096) return 9;
+    if (longer && len > 8 && share[8]) return 9;
+    return len < head_bytes(share[0]) ? 7 : 0;
 }
 
 /* 0 or 7 to 12, by documents 01 and 02 (docs/SCHEME.md, 9 and 11): letters may be any, so of a full block only the kind is looked at. */
@@ -536,7 +542,7 @@ uint64_t plain_judge(const uint8_t *share, uint64_t share_len, uint64_t *head) {
     uint64_t node, r = judge_head(share, share_len, &g, &node);
     if (r) return r;
     uint64_t letters = g.d ? node_letters(g, node) : preview_letters(g, node), left = letters;
-    uint64_t at = 11;
+    uint64_t at = head_bytes(share[0]);
     for (; left >= 64; left -= 64, at += 65) {
         if (at >= share_len) return 7;
         if (share[at] != 2) return 8;
@@ -554,7 +560,7 @@ uint64_t plain_judge(const uint8_t *share, uint64_t share_len, uint64_t *head) {
         if (share[at] != last[i]) return i ? 11 : 8;
     }
     if (at < share_len) return 12;
-    head[0] = g.n; head[1] = g.k; head[2] = g.d; head[3] = node; head[4] = g.l; head[5] = get(share + 7, 4); head[6] = share[0];
+    head[0] = g.n; head[1] = g.k; head[2] = g.d; head[3] = node; head[4] = g.l; head[5] = get(share + head_bytes(share[0]) - 4, 4); head[6] = share[0];
     return 0;
 }
 
@@ -564,7 +570,13 @@ uint64_t plain_read(const uint8_t *share, uint64_t share_len, uint8_t *packets, 
     group g = {found[0], found[1], found[2], found[4]};
     if (packets_len != (g.d ? node_letters(g, found[3]) : preview_letters(g, found[3]))) return 6;
     memcpy(head, found, sizeof found);
-    for (share += 11; left >= 64; left -= 64, packets += 64, share += 65) memcpy(packets, share + 1, 64);
+    for (share += head_bytes(share[0]); left >= 64; left -= 64, packets += 64, share += 65) memcpy(packets, share + 1, 64);
     memcpy(packets, share + 1, left);
+    return 0;
+}
+
+/* ---- what memory can do ---- */
+uint64_t plain_copy(uint8_t *to, const uint8_t *from, uint64_t count) {
+    memcpy(to, from, count);
     return 0;
 }

@@ -31,3 +31,5 @@ uint64_t plain_preview_recover_tiles(group g, const uint64_t *ids, uint64_t ids_
 uint64_t plain_write(group g, uint64_t node, uint32_t batch, const uint8_t *packets, uint64_t packets_len, uint8_t *share, uint64_t share_len);
 uint64_t plain_judge(const uint8_t *share, uint64_t share_len, uint64_t *head);
 uint64_t plain_read(const uint8_t *share, uint64_t share_len, uint8_t *packets, uint64_t packets_len, uint64_t *head);
+/* A plain copy of so many bytes. */
+uint64_t plain_copy(uint8_t *to, const uint8_t *from, uint64_t count);

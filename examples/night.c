@@ -8,8 +8,8 @@
 
 enum { N = 6, K = 3, D = 4, L = 1000, BATCH = 7 };
 
-static uint8_t file[DULVASPEN_MOST_FILE], buffer[DULVASPEN_MOST_FILE], packets[DULVASPEN_MOST_PACKETS], rebuilt[DULVASPEN_MOST_PACKETS];
-static uint8_t disk[N + 1][DULVASPEN_MOST_SHARE]; /* disk i holds node i's share */
+static uint8_t file[DULVASPEN_SHORT_FILE], buffer[DULVASPEN_SHORT_FILE], packets[DULVASPEN_SHORT_PACKETS], rebuilt[DULVASPEN_SHORT_PACKETS];
+static uint8_t disk[N + 1][DULVASPEN_SHORT_SHARE]; /* disk i holds node i's share */
 static uint64_t letters;                          /* of the batch */
 
 static void must(uint64_t refusal, const char *what) {

@@ -24,7 +24,7 @@
 
 enum { N = 6, K = 3, D = 4, L = 4096, HEAD = DULVASPEN_HEAD_NUMBERS, LENGTH = 8, PATH = 4096 };
 
-static uint8_t stripe[DULVASPEN_MOST_FILE], packets[DULVASPEN_MOST_PACKETS], rebuilt[DULVASPEN_MOST_PACKETS], share[DULVASPEN_MOST_SHARE];
+static uint8_t stripe[DULVASPEN_SHORT_FILE], packets[DULVASPEN_SHORT_PACKETS], rebuilt[DULVASPEN_SHORT_PACKETS], share[DULVASPEN_SHORT_SHARE];
 static uint64_t stripe_letters, letters[N + 1], bytes[N + 1]; /* B*L; T and the share's bytes of each node */
 static uint32_t next_batch;                                   /* batch numbers differ from stripe to stripe and from file to file */
 static uint64_t room[N + 1];                                  /* what a disk still takes */

@@ -3,7 +3,7 @@
  * A batch is a file of B*L letters (bytes), B = k*d - k*(k-1)/2. Each of n nodes holds d packets, T letters in all. Any k nodes give the
  * file back, any d rebuild a lost node exactly.
  *
- *   n  nodes, 3 to 16            k, d   2 <= k <= d <= n-1            l  letters in a sequence (L), 1 to 4,096
+ *   n  nodes, 3 to 16            k, d   2 <= k <= d <= n-1            l  letters in a sequence (L), 1 to 1,048,576
  *   ids and nodes count from 1; ranks and columns count from 1
  *   rank: a node's place in the list of the k ids that are read, or of the d that help. The list falls strictly: of the nodes 4, 2 and 1
  *   node 4 has rank 1, node 2 rank 2 and node 1 rank 3
@@ -42,9 +42,9 @@
  * A share is a node's packets as stored bytes. Numbers are least byte first:
  *
  *   offset        bytes   what
- *   0             1       1, the kind of the head; of a preview's share 5
+ *   0             1       the kind of the head: 1 where L is at most 4,096, 6 where it is more; of a preview's share 5
  *   1, 2, 3, 4    1 each  n, k, d, node; in a preview's share d is 0
- *   5             2       L
+ *   5             2       L; 4 bytes in kind 6, so that all that follows stands two bytes later
  *   7             4       batch
  *   11            65 each for every 64 letters a full block: 2, its kind, and 64 letters; floor(T/64) of them, which may be none
  *   then          65      where 64 doesn't divide T a last block: 3, its kind, the other letters, and zeros up to 64
@@ -74,22 +74,31 @@
 
 /* The version of this header and of the library that it was installed with. MAJOR rises where a call or a number changes its meaning, MINOR
  * where something is added. */
-#define DULVASPEN_VERSION_MAJOR 4
+#define DULVASPEN_VERSION_MAJOR 5
 #define DULVASPEN_VERSION_MINOR 0
-#define DULVASPEN_VERSION "4.0"
+#define DULVASPEN_VERSION "5.0"
 
 /* Share bytes were found to be neither a share nor the beginning of one, whatever is wrong with them: any of the numbers 8 to 12. (In version 1
  * that was 8 alone.) */
 #define DULVASPEN_MALFORMED(number) ((number) >= 8 && (number) <= 12)
 
 /* The most that any allowed numbers give, for callers with fixed buffers. A call is still lent the exact length, so the first so many letters
- * of such a buffer. The file is that of k = d = 15; packets, piece for a repair and share are those of node 16 with d = 15; all with L = 4,096. */
+ * of such a buffer. The file is that of k = d = 15; packets, piece for a repair and share are those of node 16 with d = 15; all with L = 1,048,576. */
 #define DULVASPEN_MOST_NODES 16
-#define DULVASPEN_MOST_LENGTH 4096     /* L */
-#define DULVASPEN_MOST_FILE 491520     /* B*L = 120 * 4,096, the collector's buffer, too */
-#define DULVASPEN_MOST_PACKETS 64590   /* T = 15 * (4,096 + 15 * 14), a repair's buffer, too */
-#define DULVASPEN_MOST_PIECE 4306      /* L' = 4,096 + 15 * 14, one helper's piece */
-#define DULVASPEN_MOST_SHARE 65666     /* bytes: 11 + 65 * 1,010 + 5 */
+#define DULVASPEN_MOST_LENGTH 1048576   /* L (in version 4 it was 4,096, and what follows as below) */
+#define DULVASPEN_MOST_FILE 125829120   /* B*L = 120 * 1,048,576, the collector's buffer, too */
+#define DULVASPEN_MOST_PACKETS 15731790 /* T = 15 * (1,048,576 + 15 * 14), a repair's buffer, too */
+#define DULVASPEN_MOST_PIECE 1048786    /* L' = 1,048,576 + 15 * 14, one helper's piece */
+#define DULVASPEN_MOST_SHARE 15977668   /* bytes: 13 + 65 * 245,810 + 5 */
+
+/* The same where L is at most 4,096, so that the head of a share is of kind 1: for callers who keep to that. A share that comes from elsewhere may
+ * still have a longer L: its head tells. */
+#define DULVASPEN_SHORT_LENGTH 4096     /* L */
+#define DULVASPEN_SHORT_FILE 491520     /* B*L = 120 * 4,096 */
+#define DULVASPEN_SHORT_PACKETS 64590   /* T = 15 * (4,096 + 15 * 14) */
+#define DULVASPEN_SHORT_PIECE 4306      /* L' = 4,096 + 15 * 14 */
+#define DULVASPEN_SHORT_SHARE 65666     /* bytes: 11 + 65 * 1,010 + 5 */
+
 #define DULVASPEN_HEAD_NUMBERS 7       /* n, k, d, node, L, batch, kind (in version 2 six, without the kind) */
 #define DULVASPEN_ARRIVING_WORDS 9     /* the state of a share that arrives (in version 2 eight) */
 
@@ -99,8 +108,9 @@
 #define DULVASPEN_MOST_PREVIEW_SHARE 4436  /* bytes: 11 + 65 * 68 + 5 */
 
 /* The kinds of head: head[6], and the first byte of a share. */
-#define DULVASPEN_KIND_PACKETS 1       /* a node's packets, of the code that is repaired */
+#define DULVASPEN_KIND_PACKETS 1       /* a node's packets, of the code that is repaired, where L is at most 4,096 */
 #define DULVASPEN_KIND_PREVIEW 5       /* a node's packet of a preview */
+#define DULVASPEN_KIND_LONGER 6        /* a node's packets where L is more than 4,096 */
 
 #ifdef __cplusplus
 extern "C" {
@@ -120,7 +130,7 @@ uint64_t dulvaspen_packet_letters(uint64_t n, uint64_t k, uint64_t d, uint64_t l
  * Refusals: 1, 2, 3. */
 uint64_t dulvaspen_repair_letters(uint64_t n, uint64_t k, uint64_t d, uint64_t l, uint64_t lost, uint64_t *letters);
 
-/* *bytes = the bytes of a node's share: 11 + 65 for each begun 64 letters + 5. Refusals: 1, 2, 3. */
+/* *bytes = the bytes of a node's share: 11, or 13 where L is more than 4,096, + 65 for each begun 64 letters + 5. Refusals: 1, 2, 3. */
 uint64_t dulvaspen_share_bytes(uint64_t n, uint64_t k, uint64_t d, uint64_t l, uint64_t node, uint64_t *bytes);
 
 /* ---- packets ---- */

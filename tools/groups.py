@@ -1,4 +1,4 @@
-"""What the models of calls on groups share, tools/store_model for the repairing code and tools/preview_model for previews: letters that are
+"""What the models of calls on groups share, tools/store_model and tools/longer_model.py for the repairing code, and tools/preview_model.py for previews: letters that are
 moved, the papers' printed sums, the checks that both codes have, letters of which most are zero or none is, and numbers of the generator that are mostly right.
 """
 from collections import namedtuple
@@ -43,7 +43,8 @@ def lowest(*checks):
 
 
 def bad_length(g):
-    return not 1 <= g.l <= 4096
+    """Previews have shorter sequences."""
+    return not 1 <= g.l <= (4096 if g.d == 0 else 1048576)
 
 
 def bad_id(g, node):

@@ -7,7 +7,7 @@ Green boxes are the library, blue ones its programs. The tests, grey, stand in a
 """
 
 PROGRAMS = {"judge", "watch", "tour"}
-TESTS = {"examples", "desk", "marks", "calls", "disks", "rescue", "lines", "script_line", "script", "store_runs", "share_runs", "verdict_runs",
+TESTS = {"examples", "desk", "marks", "calls", "disks", "rescue", "lines", "script_line", "script", "store_runs", "share_runs", "verdict_runs", "longer_runs",
          "judged_words", "arriving_words", "arriving_runs", "preview_calls", "preview_runs", "lending", "bench_runs", "bench_counts"}
 WIDTH, HEIGHT, GAP, RISE, LANE = 92, 28, 16, 70, 14
 LONGEST = 12  # letters of a name that fit into a box as they are; longer ones are written smaller

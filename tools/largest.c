@@ -1,28 +1,35 @@
 /* The header's macros for fixed buffers against the library: the most that any allowed numbers give, found by asking for all of them, and
- * that no more is allowed: n 17, L 4,097. The words of a state: a call takes just so many, refuses any other number by 5 before anything
+ * that no more is allowed: n 17, L 1,048,577, of previews 4,097; and the same where L is at most 4,096. The words of a state: a call takes just so many, refuses any other number by 5 before anything
  * else, and leaves everything as it was. And the numbers of a head: a call fills just so many, tells both kinds apart, refuses any other number by 6
  * and leaves everything as it was. Exits with 1 where a macro is not exactly that. tools/try_c builds and runs it. */
 #include "dulvaspen.h"
 #include <stdio.h>
 #include <string.h>
 
-static uint64_t most[7]; /* file, packets, piece for a repair, share; of previews file, packet, share */
+enum { SIZES = 11, SHORT = 7 };
+static uint64_t most[SIZES]; /* file, packets, piece for a repair, share; of previews file, packet, share; and the first four again where L is at most 4,096 */
 
 static void keep(int which, uint64_t refusal, uint64_t value) {
     if (!refusal && most[which] < value) most[which] = value;
 }
 
+/* One of the first four, and where L is short its other one, too. */
+static void keep_by(int which, uint64_t l, uint64_t refusal, uint64_t value) {
+    keep(which, refusal, value);
+    if (l <= DULVASPEN_SHORT_LENGTH) keep(SHORT + which, refusal, value);
+}
+
 static void ask(uint64_t n, uint64_t k, uint64_t d, uint64_t l) {
     uint64_t value = 0, refusal;
     refusal = dulvaspen_file_letters(n, k, d, l, &value);
-    keep(0, refusal, value);
+    keep_by(0, l, refusal, value);
     for (uint64_t node = 1; node <= n; node++) {
         refusal = dulvaspen_packet_letters(n, k, d, l, node, &value);
-        keep(1, refusal, value);
+        keep_by(1, l, refusal, value);
         refusal = dulvaspen_repair_letters(n, k, d, l, node, &value);
-        keep(2, refusal, value);
+        keep_by(2, l, refusal, value);
         refusal = dulvaspen_share_bytes(n, k, d, l, node, &value);
-        keep(3, refusal, value);
+        keep_by(3, l, refusal, value);
     }
 }
 
@@ -85,18 +92,21 @@ static int state_of(uint64_t words, uint64_t word) {
 }
 
 int main(void) {
-    static const uint64_t said[7] = {DULVASPEN_MOST_FILE, DULVASPEN_MOST_PACKETS, DULVASPEN_MOST_PIECE, DULVASPEN_MOST_SHARE, DULVASPEN_MOST_PREVIEW_FILE,
-                                     DULVASPEN_MOST_PREVIEW_PACKET, DULVASPEN_MOST_PREVIEW_SHARE};
-    static const char *names[7] = {"file", "packets", "piece", "share", "preview", "preview's packet", "preview's share"};
+    static const uint64_t said[SIZES] = {DULVASPEN_MOST_FILE, DULVASPEN_MOST_PACKETS, DULVASPEN_MOST_PIECE, DULVASPEN_MOST_SHARE, DULVASPEN_MOST_PREVIEW_FILE,
+                                         DULVASPEN_MOST_PREVIEW_PACKET, DULVASPEN_MOST_PREVIEW_SHARE, DULVASPEN_SHORT_FILE, DULVASPEN_SHORT_PACKETS,
+                                         DULVASPEN_SHORT_PIECE, DULVASPEN_SHORT_SHARE};
+    static const char *names[SIZES] = {"file", "packets", "piece", "share", "preview", "preview's packet", "preview's share",
+                                       "short file", "short packets", "short piece", "short share"};
     char version[24];
     int wrong = 0;
     for (uint64_t n = 0; n <= 20; n++)
         for (uint64_t k = 0; k <= 20; k++)
-            for (uint64_t l = 4090; l <= 4100; l++) {
+            for (uint64_t more = 0; more <= 20; more++) {
+                uint64_t l = more <= 10 ? DULVASPEN_SHORT_LENGTH - 6 + more : DULVASPEN_MOST_LENGTH - 16 + more;
                 for (uint64_t d = 0; d <= 20; d++) ask(n, k, d, l);
                 ask_previews(n, k, l);
             }
-    for (int i = 0; i < 7; i++) {
+    for (int i = 0; i < SIZES; i++) {
         printf("%s: the most is %u, the header says %u\n", names[i], (unsigned)most[i], (unsigned)said[i]);
         wrong |= most[i] != said[i];
     }

@@ -1,15 +1,12 @@
 // A head's bytes: read, tested, written. Every kind has them in the same order; how many L has, and which numbers can stand, its row in `kinds` tells.
 use crate::Head;
 use group::checks;
-use kinds::Limits;
 use records::numbers;
-use records::ranges;
 ghost use mathlib.Core.Path.{_≡_};
 ghost use mathlib.Core.Bool.{true};
 ghost use Prim.Native.Nat.{_+_, _^_, _≤_, _<_};
 ghost use lib.ListN.{length, getD};
 ghost use Rattle.letters.specs.Laid.{Laid};
-ghost use Rattle.records.specs.Steps.Ranges.{rangeTests};
 ghost use Rattle.kinds.specs.Kinds.{headSize, rowForKind};
 ghost use Rattle.heads.specs.Steps.Partly.{HeadFits};
 ghost use Rattle.heads.specs.Heads.{headRecord, headIn, headTests, headTotal};
@@ -20,12 +17,11 @@ const LENGTH: usize = 5;
 // The bytes of the batch number.
 const BATCH_BYTES: usize = 4;
 
-// The head's numbers as the bytes have them.
-pub fn head_in(share: &[u8]) -> Head
+// The head's numbers as the bytes have them, where it is of this kind and its L has so many bytes.
+fn head_of(share: &[u8], kind: usize, wide: usize) -> Head
+    requires { ⌜ (kind ≡ getD (now share) 0 0) × (wide ≡ rowForKind kind .lengthBytes) × (wide ≤ 4) ⌝ }
     ensures { λ r. ⌜ r ≡ headIn (now (share .entry)) ⌝ }
 {
-    let kind = numbers::byte_at(share, 0);
-    let wide = length_bytes(kind);
     let l = numbers::number_in(share, LENGTH, wide);
     let batch = numbers::number_in(share, LENGTH + wide, BATCH_BYTES);
     let group = group::of(
@@ -42,12 +38,16 @@ pub fn head_in(share: &[u8]) -> Head
     }
 }
 
-// The bytes of L in a head of this kind.
-pub fn length_bytes(kind: usize) -> usize
-    ensures { λ r. ⌜ (r ≡ rowForKind kind .lengthBytes) × (r ≤ 4) ⌝ }
+// The same of any bytes. (Four bytes and two have a branch each, so that the compiler needs no loop.)
+pub fn head_in(share: &[u8]) -> Head
+    ensures { λ r. ⌜ r ≡ headIn (now (share .entry)) ⌝ }
 {
-    let row = kinds::limits_of(kind, 0, 0);
-    row.length_bytes
+    let kind = numbers::byte_at(share, 0);
+    let wide = kinds::length_bytes(kind);
+    if wide == 4 {
+        return head_of(share, kind, 4);
+    }
+    head_of(share, kind, wide)
 }
 
 // T by the head's numbers; 0 where they are out of range.
@@ -55,17 +55,6 @@ pub fn total(head: Head) -> usize
     ensures { λ r. ⌜ r ≡ headTotal head ⌝ }
 {
     kinds::total(head.kind, head.group, head.node)
-}
-
-// The byte of L at this place can stand there; past L's bytes there is no test.
-fn length_stands(row: Limits, l: usize, nth: usize) -> bool
-    requires { ⌜ row .«least_l» ≤ 2 ^ 32 ⌝ }
-    ensures { λ r. ⌜ r ≡ getD (rangeTests (row .«length_bytes») (row .«least_l») (row .«most_l») l) nth true ⌝ }
-{
-    if row.length_bytes <= nth {
-        return true;
-    }
-    ranges::byte_stands(row.least_l, row.most_l, l, nth)
 }
 
 // The byte at this offset of the head can stand there: each number is tested against those before it.
@@ -80,7 +69,7 @@ pub fn head_stands(head: Head, offset: usize) -> bool
         2 => checks::is_between(2, row.most_k, g.k),
         3 => checks::is_between(row.least_d, row.most_d, g.d),
         4 => checks::is_between(1, g.n, head.node),
-        _ => length_stands(row, g.l, offset - LENGTH),
+        _ => kinds::length_stands(head.kind, g.l, offset - LENGTH),
     }
 }
 
@@ -89,7 +78,7 @@ fn later_byte(head: Head, nth: usize) -> u8
     requires { ⌜ nth < rowForKind (head .kind) .lengthBytes + 4 ⌝ }
     ensures { λ r. ⌜ r ≡ getD (headRecord head) (5 + nth) 0 ⌝ }
 {
-    let wide = length_bytes(head.kind);
+    let wide = kinds::length_bytes(head.kind);
     if nth < wide {
         return numbers::byte_of(head.group.l, nth);
     }
@@ -112,15 +101,27 @@ pub fn head_byte(head: Head, offset: usize) -> u8
     }
 }
 
-// The head, at the front.
+// The bytes of a head, of which there are so many, at the front.
+fn put_bytes(head: Head, size: usize, share: &mut [u8])
+    requires { ⌜ (HeadFits head) × (size ≡ headSize (head .kind)) × (size ≤ length (now share)) ⌝ }
+    ensures { λ _. ⌜ Laid (now (share .entry)) (now (share .exit)) 0 size (λ p. getD (headRecord head) p 0) ⌝ }
+{
+    let mut at = 0;
+    while at < size {
+        share[at] = head_byte(head, at);
+        at += 1;
+    }
+}
+
+// The head, at the front. (The two sizes that there are have a branch each, so that the compiler knows how many bytes it lays, and needs no loop.)
 pub fn put_head(head: Head, share: &mut [u8])
     requires { ⌜ (HeadFits head) × (headSize (head .kind) ≤ length (now share)) ⌝ }
     ensures { λ _. ⌜ Laid (now (share .entry)) (now (share .exit)) 0 (headSize (head .kind)) (λ p. getD (headRecord head) p 0) ⌝ }
 {
     let size = kinds::head_size(head.kind);
-    let mut at = 0;
-    while at < size {
-        share[at] = head_byte(head, at);
-        at += 1;
+    if size == 13 {
+        put_bytes(head, 13, share);
+    } else {
+        put_bytes(head, size, share);
     }
 }

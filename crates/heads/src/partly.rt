@@ -35,7 +35,7 @@ fn fits(head: Head) -> bool
     if 255 < head.node {
         return false;
     }
-    numbers::has_room(g.l, head_bytes::length_bytes(head.kind))
+    numbers::has_room(g.l, kinds::length_bytes(head.kind))
 }
 
 // The byte at an offset is as it is where so many bytes are in.

@@ -10,12 +10,13 @@ use Rattle.letters.proofs.Cases.{le-or-lt}
 use Rattle.records.specs.Records.{blockSize}
 use Rattle.records.specs.Steps.Places.{standsIn, recordStart, recordSize, recordAt, offsetAt}
 use Rattle.records.proofs.Places.{next-start, start-of-block, found, stands-placed}
-use Rattle.layout.specs.Steps.Reading.{Skips, FullBlocks}
+use Rattle.layout.specs.Steps.Reading.{FullBlocks}
 use Rattle.layout.proofs.SteppedOver.{full-stand}
 use Rattle.heads.specs.declared.Head.{Head}
 use Rattle.kinds.specs.Kinds.{headSize}
 use Rattle.heads.specs.Heads.{headTests, heads}
-use Rattle.judging.specs.Steps.Search.{standsAt}
+use Rattle.heads.proofs.HeadLaws.{wide, batch-test}
+use Rattle.judging.specs.Steps.Search.{standsAt, StepsOn}
 
 -- no record is longer than a block, where the head isn't
 pub size-at-most : (H nth : ℕ) → H ≤ blockSize → recordSize H nth ≤ blockSize
@@ -89,6 +90,13 @@ past-blocks base h H T ys start r next front total so-far begins full p l =
     ∙ full-stand H base start ys T (headTests h) r next p full (begins (omega arith)) later l)
     (so-far p) (le-or-lt start p)
 
+-- the batch, the four bytes at the head's end, has no test
+batch-free : (h : Head) (H : ℕ) → H ≡ headSize (h .kind) → (j : ℕ) → H ≤ j + 4 → getD (headTests h) j true ≡ true
+unfolding headSize
+batch-free h H front j l =
+    let e : j ≡ 5 + wide (h .kind) + (j - (5 + wide (h .kind))) = omega arith in
+    ap (λ i. getD (headTests h) i true) e ∙ batch-test h (j - (5 + wide (h .kind)))
+
 module _ (base : ℕ) (h : Head) (H T : ℕ) (ys : List ℕ) (front : H ≡ headSize (h .kind)) (total : T ≡ heads .total h) (nth start offset end at : ℕ)
     (w : InRecord H base (length ys) nth start offset end at) where
   -- a byte of the record is tested by its offset
@@ -100,7 +108,7 @@ module _ (base : ℕ) (h : Head) (H T : ℕ) (ys : List ℕ) (front : H ≡ head
   -- past a byte that stands and what is stepped over after it
   pub further :
       (next : ℕ) → at < end → SoFar base h ys at → standsIn (headTests h) T nth (offset + (at - start)) (getD ys at 0) ≡ true
-      → Skips ys T nth (offset + (at - start)) at end next → SoFar base h ys next
+      → StepsOn ys H T nth (offset + (at - start)) at end next → SoFar base h ys next
   further next inside so-far here skips p l =
       ⊎-elim
       (λ later.
@@ -109,7 +117,7 @@ module _ (base : ℕ) (h : Head) (H T : ℕ) (ys : List ℕ) (front : H ≡ head
       let same : offset + (p - start) ≡ offset + (at - start) + (p - at) = omega (arith, w .from) in
       tested p (omega (arith, w .from)) (omega (arith, skips .within))
       ∙ ap (λ j. standsIn (headTests h) T nth j (getD ys p 0)) same
-      ∙ skips .stand (headTests h) p after l)
+      ∙ skips .stand (headTests h) (batch-free h H front) p after l)
       (le-or-lt p at))
       (so-far p) (le-or-lt at p)
 

@@ -4,8 +4,8 @@ use mathlib.Core.Bool.{Bool, true, false, cond}
 use mathlib.Core.Logic.{_⊎_, inl, inr, ⊎-elim}
 use Prim.Native.Nat.{ℕ, zero, suc, _+_, _-_, _*_, _^_, _≤_, _<_}
 use native.Mathlib.Omega.{arith}
-use lib.Dec.{leb, eqb}
-use borrow.Author.Tests.{eqb-true, eq-eqb, ne-eqb, leb-true, le-leb, lt-leb}
+use lib.Dec.{leb, ltb, eqb}
+use borrow.Author.Tests.{eqb-true, eq-eqb, ne-eqb, le-leb, lt-leb, le-ltb, lt-ltb}
 use Rattle.letters.specs.Places.{either}
 use Rattle.letters.proofs.Cases.{le-or-lt}
 use Rattle.group.specs.declared.Group.{Group}
@@ -21,7 +21,7 @@ use Rattle.records.specs.Records.{blockSize, totalLimit}
 use Rattle.records.specs.Steps.Ranges.{leastLeft, mostLeft}
 use Rattle.records.proofs.RangeBytes.{AnyBetween, from-one}
 use Rattle.kinds.specs.Kinds.{KindRow, longestOfKindOne, kindForLength, packetsRefusal, packetsRow, repairing, repairingLonger, previews, noKind, rowForKind, isKind, InRow, rowTotal, headSize}
-use Rattle.kinds.specs.Steps.Rows.{limitsIn, limitsAt}
+use Rattle.kinds.specs.Steps.Rows.{limitsIn, limitsAt, lengthTest}
 
 -- What is asked of a row.
 pub record RowLaws (row : KindRow) : Type 0 where
@@ -46,14 +46,36 @@ short-kind l h = simp (le-leb l longestOfKindOne h)
 pub longer-kind : (l : ℕ) → longestOfKindOne < l → kindForLength l ≡ 6
 longer-kind l h = simp (lt-leb l longestOfKindOne h)
 
--- The kind serves exactly the L's of this range, which are some of those that a group may have.
-record Serves (kind least most : ℕ) : Type 0 where
-  low : 1 ≤ least
-  high : most ≤ longest
-  served : (l : ℕ) → least ≤ l → l ≤ most → kindForLength l ≡ kind
-  ranged : (l : ℕ) → 1 ≤ l → l ≤ longest → kindForLength l ≡ kind → (least ≤ l) × (l ≤ most)
+-- so that is what each kind serves
+pub one-serves : (l : ℕ) → leb l longestOfKindOne ≡ eqb 1 (kindForLength l)
+one-serves l = by (leb l longestOfKindOne)
+  where
+    by : (b : Bool) → b ≡ eqb 1 (cond b 1 6)
+    by true = refl
+    by false = refl
 
-short-serves : Serves 1 1 longestOfKindOne
+pub six-serves : (l : ℕ) → ltb longestOfKindOne l ≡ eqb 6 (kindForLength l)
+six-serves l =
+    ⊎-elim (λ h. le-ltb longestOfKindOne l h ∙ sym (ap (eqb 6) (short-kind l h))) (λ h. lt-ltb longestOfKindOne l h ∙ sym (ap (eqb 6) (longer-kind l h)))
+    (le-or-lt l longestOfKindOne)
+
+pub none-serves : (kind l : ℕ) → (kind ≡ 1 → ⊥) → (kind ≡ 6 → ⊥) → false ≡ eqb kind (kindForLength l)
+none-serves kind l a b =
+    sym (ne-eqb kind (kindForLength l) (λ e. ⊎-elim (λ h. a (e ∙ short-kind l h)) (λ h. b (e ∙ longer-kind l h)) (le-or-lt l longestOfKindOne)))
+
+-- a test of that which fails
+pub unserved : (r : Bool) (kind l : ℕ) → r ≡ eqb kind (kindForLength l) → r ≡ false → kind ≡ kindForLength l → ⊥
+unserved r kind l e f same =
+    let z : _≡_ {A = ℕ} 0 1 = ap (λ (b : Bool). cond b 1 0) (sym f ∙ e ∙ eq-eqb kind (kindForLength l) same) in absurd (omega arith)
+
+-- The kind serves exactly the L's of this range, which are some of those that a group may have.
+pub record Serves (kind least most : ℕ) : Type 0 where
+  pub low : 1 ≤ least
+  pub high : most ≤ longest
+  pub served : (l : ℕ) → least ≤ l → l ≤ most → kindForLength l ≡ kind
+  pub ranged : (l : ℕ) → 1 ≤ l → l ≤ longest → kindForLength l ≡ kind → (least ≤ l) × (l ≤ most)
+
+pub short-serves : Serves 1 1 longestOfKindOne
 short-serves =
     record {
       low = omega arith;
@@ -62,7 +84,7 @@ short-serves =
       ranged = λ l lo hi e. (lo, ⊎-elim (λ h. h) (λ h. absurd (omega (arith, longer-kind l h))) (le-or-lt l longestOfKindOne));
     }
 
-longer-serves : Serves 6 (longestOfKindOne + 1) longest
+pub longer-serves : Serves 6 (longestOfKindOne + 1) longest
 longer-serves =
     record {
       low = omega arith;
@@ -90,7 +112,7 @@ packets-fine kind g i = by (eqb kind (kindForLength (g .l))) refl
 
 -- kinds 1 and 6: the ranges are those of a node of a group whose L they serve
 module _ (kind bytes least most : ℕ) (w : Serves kind least most) (g : Group) (i : ℕ) where
-  packets-node : InRow (packetsRow kind bytes least most) g i → NodeOf g i
+  pub packets-node : InRow (packetsRow kind bytes least most) g i → NodeOf g i
   packets-node r =
       record {
         group =
@@ -107,7 +129,7 @@ module _ (kind bytes least most : ℕ) (w : Serves kind least most) (g : Group) 
         high = r .node-high;
       }
 
-  node-packets : NodeOf g i → kindForLength (g .l) ≡ kind → InRow (packetsRow kind bytes least most) g i
+  pub node-packets : NodeOf g i → kindForLength (g .l) ≡ kind → InRow (packetsRow kind bytes least most) g i
   node-packets v e =
       let r = v .group in
       let l = w .ranged (g .l) (r .l-low) (r .l-high) e in
@@ -335,7 +357,13 @@ unfolding headSize
 size-small kind = omega (arith, row-laws kind .few-bytes)
 
 -- what is no kind has the ranges of kind 1
-pub other-limits : (kind n k : ℕ) → (kind ≡ 5 → ⊥) → (kind ≡ 6 → ⊥) → limitsIn repairing n k ≡ limitsAt kind n k
+pub other-limits : (kind n k : ℕ) → (kind ≡ 5 → ⊥) → limitsIn repairing n k ≡ limitsAt kind n k
 other-limits kind n k =
-    each-kind (λ kind is row. (kind ≡ 5 → ⊥) → (kind ≡ 6 → ⊥) → limitsIn repairing n k ≡ limitsIn row n k)
-    (λ a b. refl) (λ a b. absurd (a refl)) (λ a b. absurd (b refl)) (λ kind a b. refl) kind
+    each-kind (λ kind is row. (kind ≡ 5 → ⊥) → limitsIn repairing n k ≡ limitsIn row n k) (λ a. refl) (λ a. absurd (a refl)) (λ a. refl) (λ kind a. refl) kind
+
+pub other-bytes : (kind : ℕ) → (kind ≡ 6 → ⊥) → 2 ≡ rowForKind kind .lengthBytes
+other-bytes = each-kind (λ kind is row. (kind ≡ 6 → ⊥) → 2 ≡ row .lengthBytes) (λ a. refl) (λ a. refl) (λ a. absurd (a refl)) (λ kind a. refl)
+
+pub other-test : (kind l nth : ℕ) → (kind ≡ 6 → ⊥) → lengthTest repairing l nth ≡ lengthTest (rowForKind kind) l nth
+other-test kind l nth =
+    each-kind (λ kind is row. (kind ≡ 6 → ⊥) → lengthTest repairing l nth ≡ lengthTest row l nth) (λ a. refl) (λ a. refl) (λ a. absurd (a refl)) (λ kind a. refl) kind

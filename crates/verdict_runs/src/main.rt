@@ -1,5 +1,5 @@
 // The judge's line for every kind of bytes (docs/SCHEME.md, 13): the examples P9 to P12, each thing that can be wrong, a preview's share, the largest
-// numbers, and the two sides of 65,536 bytes. The file stdout has what it must write, by hand from that page.
+// numbers, longer sequences, and the two sides of 65,536 bytes. The file stdout has what it must write, by hand from that page.
 use libc::STDOUT_FILENO;
 
 // Some words, and after them the line for these bytes.
@@ -58,6 +58,7 @@ fn judged_preview(share: &[u8]) {
     changed(b"a preview with d 2: ", share, 3, 2);
     changed(b"a preview as kind 1: ", share, 0, 1);
     changed(b"a preview as kind 6: ", share, 0, 6);
+    changed(b"a preview as kind 7: ", share, 0, 7);
 }
 
 // [3,2], L = 1, the file 01 10, node 1, batch 7.
@@ -66,6 +67,45 @@ fn preview() {
     let mut share = [0u8; 81];
     share::write_preview(g, 1, 7, &[0x01, 0x10], &mut share);
     judged_preview(&share);
+}
+
+// A share with another byte at an index, whose own is put back.
+fn with(words: &[u8], share: &mut [u8], at: usize, byte: u8, own: u8) {
+    lines::put(share, at, &[byte]);
+    show(words, share);
+    lines::put(share, at, &[own]);
+}
+
+// A share of L = 4,097, which is 01 10 00 00, with what its L can't be: found at the third byte, and the fourth at once; and as another kind.
+fn wrong_lengths(share: &mut [u8]) {
+    with(b"with L 4,096: ", share, 5, 0, 1);
+    with(b"with 17 in L's third byte: ", share, 7, 17, 0);
+    with(b"with 16 in L's third byte: ", share, 7, 16, 0);
+    with(b"with 1 in L's fourth byte: ", share, 8, 1, 0);
+    with(b"as kind 1: ", share, 0, 1, 6);
+    with(b"as kind 5: ", share, 0, 5, 6);
+}
+
+// The smallest share of kind 6: node 1 of [3,2,2].
+fn smallest_of_six(packets: &[u8], room: &mut [u8]) {
+    let share = lines::part_mut(room, 0, 8403);
+    let letters = lines::part(packets, 0, 8194);
+    share::write(group::of(3, 2, 2, 4097), 1, 7, letters, share);
+    show(b"L 4,097: ", share);
+    show(b"its first 8,402 bytes: ", lines::part(share, 0, 8402));
+    wrong_lengths(share);
+}
+
+// One of L = 65,536.
+fn long_sequences(packets: &[u8], room: &mut [u8]) {
+    let share = lines::part_mut(room, 0, 133138);
+    let letters = lines::part(packets, 0, 131072);
+    share::write(group::of(3, 2, 2, 65536), 1, 7, letters, share);
+    show(
+        b"L 65,536, its first 65,536 bytes: ",
+        lines::part(share, 0, 65536),
+    );
+    show(b"all of it, 133,138 bytes: ", share);
 }
 
 // Writes a node's share of [16,15,15], L = 4,096, from so many letters to so many bytes.
@@ -109,5 +149,7 @@ fn main() {
     preview();
     lines::scatter(&mut packets, 1);
     large(&packets, &mut share);
+    smallest_of_six(&packets, &mut share);
+    long_sequences(&packets, &mut share);
     malformed(&zeros);
 }

@@ -2,7 +2,7 @@
 use mathlib.Core.Path.{_≡_}
 use mathlib.Core.Bool.{Bool, true, false, cond}
 use mathlib.Core.List.{List}
-use Prim.Native.Nat.{ℕ, _+_, _*_, _≤_, _<_}
+use Prim.Native.Nat.{ℕ, _+_, _-_, _*_, _≤_, _<_}
 use lib.Dec.{leb, ltb, eqb}
 use lib.ListN.{length, getD}
 use Rattle.group.specs.declared.Refusal.{Refusal}
@@ -29,6 +29,15 @@ pub record StopsFrom (base : ℕ) (h : Head) (ys : List ℕ) (q : ℕ) : Type 0 
   pub within : q ≤ length ys
   pub before : (p : ℕ) → p < q → standsAt h (base + p) (getD ys p 0) ≡ true
   pub wrong : q < length ys → standsAt h (base + q) (getD ys q 0) ≡ false
+
+-- Between the byte at this index, which has this offset in its record, and the next one that is looked at, all bytes of the record stand, whatever the
+-- tests of its head are, where those say nothing of the four bytes at its end.
+pub record StepsOn (xs : List ℕ) (front letters nth offset at end next : ℕ) : Type 0 where
+  pub on : at < next
+  pub within : next ≤ end
+  pub stand :
+      (tests : List Bool) → ((j : ℕ) → front ≤ j + 4 → getD tests j true ≡ true)
+      → (p : ℕ) → at < p → p < next → standsIn tests letters nth (offset + (p - at)) (getD xs p 0) ≡ true
 
 -- every byte before index q stands; and q is past the last byte, or that byte doesn't stand
 pub record Stops (xs : List ℕ) (q : ℕ) : Type 0 where

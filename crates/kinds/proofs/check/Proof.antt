@@ -1,15 +1,15 @@
 -- `check` meets its contract: the kind that serves an L has the node's refusals, previews have their own, and all else is refused.
 use mathlib.Core.Path.{sym, ap, _∙_}
 use native.Mathlib.Omega.{arith}
-use borrow.Author.Tests.{ne-eqb}
+use borrow.Author.Tests.{eqb-true, ne-eqb}
 use Rattle.kinds.specs.Kinds.{rowForKind}
 use borrow.Author.Needs.{needs}
-use Rattle.kinds.proofs.RowLaws.{chosen-refusal, packets-other}
+use Rattle.kinds.proofs.RowLaws.{unserved, chosen-refusal, packets-other}
 use Rattle.kinds.proofs.check.Statement.{statement}
 use Rattle.kinds.proofs.check.Tie as tie
 
-for-length-requires : tie.Need-for-length-requires
-for-length-requires c κs = search needs
+serves-requires : tie.Need-serves-requires
+serves-requires c κs = search needs
 
 node-requires : tie.Need-node-requires
 node-requires c κs = search needs
@@ -17,7 +17,7 @@ node-requires c κs = search needs
 returns : tie.Need-returns
 returns c =
     let a = c .before .before .before .args in
-    c .node .ensures ∙ sym (chosen-refusal (a .g) (a .node)) ∙ sym (ap (λ kind. rowForKind kind .refusal (a .g) (a .node)) (c .before .if1 .taken ∙ c .before .before .for-length .ensures))
+    c .node .ensures ∙ sym (chosen-refusal (a .g) (a .node)) ∙ sym (ap (λ kind. rowForKind kind .refusal (a .g) (a .node)) (eqb-true _ _ (sym (c .before .before .serves .ensures) ∙ c .before .if1 .taken)))
 
 node-requires-2 : tie.Need-node-requires-2
 node-requires-2 c κs = search needs
@@ -30,13 +30,13 @@ returns-3 : tie.Need-returns-3
 unfolding rowForKind
 returns-3 c =
     let a = c .before .before .before .args in
-    rw (c .match .keys2) (sym (packets-other 1 (a .g) (a .node) (λ e. omega (arith, e, c .before .before .for-length .ensures, c .match .keys2))))
+    rw (c .match .keys2) (sym (packets-other 1 (a .g) (a .node) (λ e. unserved _ (a .kind) (a .g .l) (c .before .before .serves .ensures) (c .before .if1 .left) (c .match .keys2 ∙ e))))
 
 returns-4 : tie.Need-returns-4
 unfolding rowForKind
 returns-4 c =
     let a = c .before .before .before .args in
-    rw (c .match .keys3) (sym (packets-other 6 (a .g) (a .node) (λ e. omega (arith, e, c .before .before .for-length .ensures, c .match .keys3))))
+    rw (c .match .keys3) (sym (packets-other 6 (a .g) (a .node) (λ e. unserved _ (a .kind) (a .g .l) (c .before .before .serves .ensures) (c .before .if1 .left) (c .match .keys3 ∙ e))))
 
 returns-5 : tie.Need-returns-5
 unfolding rowForKind
@@ -48,7 +48,7 @@ pub check-spec : {M : Type 1} → statement M
 check-spec =
     tie.close
     (tie.spec
-    for-length-requires
+    serves-requires
     node-requires
     returns
     node-requires-2

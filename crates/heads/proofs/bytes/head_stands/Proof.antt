@@ -5,9 +5,7 @@ use Prim.Native.Nat.{_+_, _-_}
 use native.Mathlib.Omega.{arith}
 use lib.ListN.{getD}
 use Rattle.group.specs.Ranges.{between}
-use Rattle.records.specs.Steps.Ranges.{rangeTests}
 use Rattle.kinds.specs.declared.Limits.{Limits}
-use Rattle.kinds.proofs.RowLaws.{row-laws}
 use Rattle.heads.specs.Heads.{headTests}
 use Rattle.heads.proofs.HeadLaws.{length-test}
 use borrow.Author.Needs.{needs}
@@ -36,7 +34,7 @@ sub-length-stands : tie.Need-sub-length-stands
 sub-length-stands c = search needs
 
 length-stands-requires : tie.Need-length-stands-requires
-length-stands-requires c κs = omega (arith, ap (λ (r : Limits). r .«least_l») (c .before .limits-of .ensures), row-laws (c .before .before .before .args .head .kind) .low-l)
+length-stands-requires c κs = search needs
 
 returns : tie.Need-returns
 returns c = rw (c .before .match .keys1) (c .is-kind .ensures)
@@ -58,7 +56,6 @@ returns-6 c =
     let a = c .before .before .before .before .args in
     let e : 5 + (a .offset - 5) ≡ a .offset = omega arith in
     c .length-stands .ensures
-    ∙ ap (λ (r : Limits). getD (rangeTests (r .«length_bytes») (r .«least_l») (r .«most_l») (a .head .group .l)) (a .offset - 5) true) (c .before .before .limits-of .ensures)
     ∙ sym (length-test (a .head) (a .offset - 5))
     ∙ ap (λ i. getD (headTests (a .head)) i true) e
 

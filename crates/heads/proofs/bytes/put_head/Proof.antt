@@ -1,64 +1,46 @@
--- `bytes::put_head` meets its contract: after each turn one byte more of the head is laid.
-use mathlib.Core.Path.{_≡_, refl}
-use Prim.Native.Nat.{_-_, _≤_}
-use native.Mathlib.Omega.{arith}
-use lib.ListN.{getD}
-use borrow.Author.Needs.{needs}
-use Rattle.kinds.specs.Kinds.{headSize}
-use Rattle.heads.specs.Heads.{headRecord}
+-- `bytes::put_head` meets its contract: as many bytes are laid as the head has.
+use mathlib.Core.Path.{_≡_, sym, subst, _∙_}
+use mathlib.Core.List.{List}
+use Prim.Native.Nat.{ℕ}
 use Rattle.letters.specs.Laid.{Laid}
-use Rattle.letters.proofs.Laying.{nothing-laid, laid-one, laid-until}
+use borrow.Author.Needs.{needs}
 use Rattle.heads.proofs.bytes.put_head.Statement.{statement}
 use Rattle.heads.proofs.bytes.put_head.Tie as tie
 
-abbrev Inv-loop : tie.InvT-loop
-Inv-loop head share₀ size at₀ share at = (size ≡ headSize (head .kind)) × (at ≤ size) × Laid share₀ share 0 at (λ p. getD (headRecord head) p 0)
+laid-as : (before after : List ℕ) (f : ℕ → ℕ) (size whole : ℕ) → size ≡ whole → Laid before after 0 size f → Laid before after 0 whole f
+laid-as before after f size whole e = subst (λ n. Laid before after 0 n f) e
 
-abbrev μ-loop : tie.MeasureT-loop
-μ-loop head share₀ size at₀ share at = size - at
-
-head-size-requires : tie.Need-head-size-requires Inv-loop μ-loop
+head-size-requires : tie.Need-head-size-requires
 head-size-requires c κs = search needs
 
-loop-holds : tie.Need-loop-holds Inv-loop μ-loop
-loop-holds c = (c .head-size .ensures, omega arith, nothing-laid _ _ _ _ (omega arith))
+put-bytes-requires : tie.Need-put-bytes-requires
+put-bytes-requires c κs = search needs
 
-head-byte-requires : tie.Need-head-byte-requires Inv-loop μ-loop
-head-byte-requires c κs = (c .before .before .before .before .pre .0, omega (arith, c .before .loop .inv .0))
+put-bytes-requires-2 : tie.Need-put-bytes-requires-2
+put-bytes-requires-2 c κs = search needs
 
-slice-write-share : tie.Need-slice-write-share Inv-loop μ-loop
-slice-write-share c = omega (arith, c .before .before .loop .inv .2 .same-length)
+same-length : tie.Need-same-length
+same-length c = search needs
 
-add-at : tie.Need-add-at Inv-loop μ-loop
-add-at c = omega arith
-
-loop-less : tie.Need-loop-less Inv-loop μ-loop
-loop-less c = omega arith
-
-loop-again : tie.Need-loop-again Inv-loop μ-loop
-loop-again c = let l = c .before .before .loop in
-    (l .inv .0, omega arith, laid-one _ _ _ (l .at) _ _ _ (omega arith) refl (omega arith) (l .inv .2) (c .head-byte .ensures))
-
-same-length : tie.Need-same-length Inv-loop μ-loop
-same-length c = c .before .loop .inv .2 .same-length
-
-returns : tie.Need-returns Inv-loop μ-loop
+returns : tie.Need-returns
 returns c =
-    let l = c .before .loop in
-    laid-until _ _ _ _ _ _ (omega (arith, l .inv .0)) (l .inv .2)
+    let m = c .before .before .before .before in
+    laid-as _ _ _ _ _ (sym (m .if1 .taken) ∙ m .before .head-size .ensures) (c .before .before .put-bytes .ensures)
+
+same-length-2 : tie.Need-same-length-2
+same-length-2 c = search needs
+
+returns-2 : tie.Need-returns-2
+returns-2 c = laid-as _ _ _ _ _ (c .before .before .before .before .before .head-size .ensures) (c .before .before .put-bytes2 .ensures)
 
 pub put-head-spec : {M : Type 1} → statement M
 put-head-spec =
     tie.close
     (tie.spec
-    Inv-loop
-    μ-loop
     head-size-requires
-    loop-holds
-    head-byte-requires
-    slice-write-share
-    add-at
-    loop-less
-    loop-again
+    put-bytes-requires
+    put-bytes-requires-2
     same-length
-    returns)
+    returns
+    same-length-2
+    returns-2)

@@ -95,7 +95,9 @@ add-next-tested c =
 next-tested-requires : tie.Need-next-tested-requires Inv-loop μ-loop Inv-records μ-records
 next-tested-requires c κs =
     let s = c .before .before .before .before .before .before .before .before .before .before .before .before in
-    (omega (arith, total-small (s .args .head)), c .before .before .before .loop-test .taken, c .before .before .before .before .loop .inv .0 .there)
+    let l = c .before .before .before .before .loop .inv .0 in
+    let inside = c .before .before .before .loop-test .taken in
+    (omega (arith, total-small (s .args .head)), offset-small _ _ _ _ _ _ _ _ (few (s .args .head) (s .args .front) (s .pre .1)) l inside, inside, l .there)
 
 loop-less : tie.Need-loop-less Inv-loop μ-loop Inv-records μ-records
 loop-less c = omega (arith, c .next-tested .ensures .on, c .next-tested .ensures .within)
