@@ -26,7 +26,7 @@ with no name:
   malformed 9 at 4                                     neither: what is wrong, and the index, from 0, of the first byte that
                                                        can't stand; 8 the kind of a record, 9 a number of the head, 10 a
                                                        zero that fills the last block, 11 the total, 12 after the end
-  too long for this program                            more than 65,536 bytes
+  too long for this program                            more than 65,536 bytes: ${called}watch takes any length
 
 Exit status: 0 complete, 1 unfinished, 3 malformed, 4 too long, 5 no judgment, since the input can't be read or the line not
 written, 2 no proved program to run. Of several files the highest. A letter that was flipped on the disk is not noticed.

@@ -1,17 +1,15 @@
 -- What a share is means this for the head, byte by byte: each number of one byte is found wrong exactly if it is outside its range, given the numbers
 -- before it, and L at its last byte if not before. (So with two bytes for 1 to 4,096 an L = 0 is found at its second byte.)
 use mathlib.Core.Path.{_≡_, refl, sym, ap, subst, _∙_}
-use mathlib.Core.Bool.{Bool, true, false, cond}
+use mathlib.Core.Bool.{Bool, true, false}
 use mathlib.Core.List.{List}
 use mathlib.Core.Logic.{_↔_, ⊎-elim}
 use Prim.Native.Nat.{ℕ, zero, suc, _+_, _/_, _%_, _*_, _^_, _≤_, _<_}
 use native.Mathlib.Nat.{mul-le-mul, pow-succ'}
 use native.Mathlib.Omega.{arith}
-use lib.Dec.{eqb}
 use lib.ListN.{length, getD, take}
 use borrow.Author.Tests.{lt-leb}
 use Rattle.letters.specs.Lanes.{Bytes}
-use Rattle.letters.specs.Places.{either}
 use Rattle.letters.proofs.Cases.{le-or-lt, eq-or-ne}
 use Rattle.group.specs.Ranges.{between, mostNodes, longest}
 use Rattle.group.proofs.InRange.{true-between}

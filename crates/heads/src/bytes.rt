@@ -4,7 +4,7 @@ use group::checks;
 use records::numbers;
 ghost use mathlib.Core.Path.{_≡_};
 ghost use mathlib.Core.Bool.{true};
-ghost use Prim.Native.Nat.{_+_, _^_, _≤_, _<_};
+ghost use Prim.Native.Nat.{_+_, _≤_, _<_};
 ghost use lib.ListN.{length, getD};
 ghost use Rattle.letters.specs.Laid.{Laid};
 ghost use Rattle.kinds.specs.Kinds.{headSize, rowForKind};

@@ -26,11 +26,14 @@ fn stands_in(head: Head, letters: usize, nth: usize, offset: usize, byte: u8) ->
 }
 
 // The byte after the one at `at`, which stands at this offset of a head of so many bytes, that has to be looked at, or `end`. A batch may have
-// any bytes, so behind L there is nothing to look at.
+// any bytes, so behind L there is nothing to look at. (L has at least the bytes at 5 and 6: up to there the compiler needn't ask how many.)
 fn next_in_head(front: usize, offset: usize, at: usize, end: usize) -> usize
     requires { ⌜ (at < end) × (offset < blockSize) ⌝ }
     ensures { λ r. ⌜ (at < r) × (r ≤ end) × (front ≤ offset + 5 ⊎ (r ≡ at + 1)) ⌝ }
 {
+    if offset < 6 {
+        return at + 1;
+    }
     if front <= offset + 5 {
         return end;
     }

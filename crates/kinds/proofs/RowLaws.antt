@@ -1,8 +1,8 @@
 -- Each row leaves every number some value, and has letters exactly for the numbers in its ranges.
-use mathlib.Core.Path.{_≡_, refl, sym, ap, ap₂, subst, _∙_}
+use mathlib.Core.Path.{_≡_, refl, sym, ap, ap₂, _∙_}
 use mathlib.Core.Bool.{Bool, true, false, cond}
 use mathlib.Core.Logic.{_⊎_, inl, inr, ⊎-elim}
-use Prim.Native.Nat.{ℕ, zero, suc, _+_, _-_, _*_, _^_, _≤_, _<_}
+use Prim.Native.Nat.{ℕ, zero, suc, _+_, _-_, _^_, _≤_, _<_}
 use native.Mathlib.Omega.{arith}
 use lib.Dec.{leb, ltb, eqb}
 use borrow.Author.Tests.{eqb-true, eq-eqb, ne-eqb, le-leb, lt-leb, le-ltb, lt-ltb}
@@ -14,10 +14,10 @@ use Rattle.group.specs.Ranges.{longest, nodeRefusal, NodeOf}
 use Rattle.group.proofs.InRange.{node-of, of-node}
 use Rattle.lengths.specs.Lengths.{nodeLetters}
 use Rattle.lengths.proofs.Sizes.{node-at-most, node-some}
-use Rattle.preview_numbers.specs.Previews.{previewNodeRefusal, previewPacket, PreviewNode}
+use Rattle.preview_numbers.specs.Previews.{PreviewNode}
 use Rattle.preview_numbers.proofs.InRange.{preview-node-of, of-preview-node}
 use Rattle.preview_numbers.proofs.Sizes.{preview-packet-at-most, preview-packet-some}
-use Rattle.records.specs.Records.{blockSize, totalLimit}
+use Rattle.records.specs.Records.{totalLimit}
 use Rattle.records.specs.Steps.Ranges.{leastLeft, mostLeft}
 use Rattle.records.proofs.RangeBytes.{AnyBetween, from-one}
 use Rattle.kinds.specs.Kinds.{KindRow, longestOfKindOne, kindForLength, packetsRefusal, packetsRow, repairing, repairingLonger, previews, noKind, rowForKind, isKind, InRow, rowTotal, headSize}

@@ -1,9 +1,9 @@
 -- Which bytes a number of a range may have: those of such a number pass their tests, bytes that pass are such a number's, and after any bytes
 -- that pass some byte does.
-use mathlib.Core.Path.{_≡_, refl, sym, ap, ap₂, _∙_}
+use mathlib.Core.Path.{_≡_, refl, sym, ap, _∙_}
 use mathlib.Core.Bool.{Bool, true, false}
 use mathlib.Core.List.{List}
-use mathlib.Core.Logic.{_⊎_, inl, inr, ⊎-elim}
+use mathlib.Core.Logic.{_⊎_, inl, ⊎-elim}
 use Prim.{Unit, tt}
 use Prim.Native.Nat.{ℕ, zero, suc, _+_, _-_, _*_, _/_, _%_, _^_, _≤_, _<_}
 use native.Mathlib.Nat.{pow-succ', zero-add}
@@ -15,7 +15,7 @@ use Rattle.letters.specs.Places.{both}
 use Rattle.letters.proofs.Cases.{eq-or-ne}
 use Rattle.records.specs.Records.{numberIn}
 use Rattle.records.specs.Steps.Ranges.{leastLeft, mostLeft, lowStands, rangeTests}
-use Rattle.records.proofs.NumberBytes.{BytesFrom, first-index, next-index}
+use Rattle.records.proofs.NumberBytes.{first-index, next-index}
 
 both-held : (a b : Bool) → both a b ≡ true → (a ≡ true) × (b ≡ true)
 both-held true b e = (refl, e)

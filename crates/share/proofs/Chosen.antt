@@ -1,6 +1,6 @@
 -- The kind that writing chooses: 1 where L is at most 4,096, 6 where it is more. A call is refused by its numbers as any other call with a node, and
 -- every share of packets has the head that writing gives it.
-use mathlib.Core.Path.{_≡_, ap, ap₂, _∙_}
+use mathlib.Core.Path.{_≡_, ap, ap₂}
 use mathlib.Core.List.{List}
 use Prim.Native.Nat.{ℕ, _≤_, _<_}
 use Rattle.group.specs.declared.Group.{Group}
@@ -10,7 +10,7 @@ use Rattle.lengths.specs.Lengths.{nodeLetters}
 use Rattle.kinds.proofs.RowLaws.{short-kind, longer-kind, chosen-refusal, chosen-letters, served-kind}
 use Rattle.layout.specs.Share.{ShareOf}
 use Rattle.heads.specs.declared.Head.{Head}
-use Rattle.heads.specs.Heads.{HeadNumbers, heads}
+use Rattle.heads.specs.Heads.{heads}
 use Rattle.share.specs.Calls.{fitRefusal, writeRefusal, headFor, shareBytes}
 
 module _ (g : Group) (i batch : ℕ) where

@@ -7,7 +7,6 @@ use Rattle.group.specs.declared.Group.{Group}
 use Rattle.group.specs.Ranges.{groupOf}
 use Rattle.records.specs.Records.{numberIn}
 use Rattle.kinds.specs.Kinds.{rowForKind}
-use Rattle.heads.specs.declared.Head.{Head}
 use Rattle.heads.specs.Heads.{headIn}
 use borrow.Author.Needs.{needs}
 use Rattle.heads.proofs.bytes.head_of.Statement.{statement}

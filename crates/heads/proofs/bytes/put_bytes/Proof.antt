@@ -3,7 +3,6 @@ use mathlib.Core.Path.{_≡_, refl}
 use Prim.Native.Nat.{_-_, _≤_}
 use native.Mathlib.Omega.{arith}
 use lib.ListN.{getD}
-use borrow.Author.Needs.{needs}
 use Rattle.kinds.specs.Kinds.{headSize}
 use Rattle.heads.specs.Heads.{headRecord}
 use Rattle.letters.specs.Laid.{Laid}

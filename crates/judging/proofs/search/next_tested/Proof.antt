@@ -1,11 +1,9 @@
 -- `search::next_tested` meets its contract: behind L there is no test in a head, and in a block letters and zeros are stepped over.
 use mathlib.Core.Path.{_≡_}
-use mathlib.Core.Bool.{Bool, true}
 use mathlib.Core.List.{List}
 use mathlib.Core.Logic.{_⊎_, ⊎-elim}
 use Prim.Native.Nat.{ℕ, _+_, _-_, _≤_, _<_}
 use native.Mathlib.Omega.{arith}
-use lib.ListN.{getD}
 use Rattle.records.specs.Steps.Places.{standsIn}
 use Rattle.layout.specs.Steps.Reading.{Skips}
 use Rattle.judging.specs.Steps.Search.{StepsOn}
