@@ -8,9 +8,12 @@ ghost use Prim.Native.Nat.{_≤_};
 ghost use lib.ListN.{length};
 ghost use Rattle.io.specs.Counts.{Counts};
 
-// How many hundredths of the whole a part is. No share has a million bytes.
+// More bytes than any share has: T has four bytes, and 64 letters take 65.
+const BYTES_LIMIT: usize = 8589934592;
+
+// How many hundredths of the whole a part is.
 fn percent(part: usize, whole: usize) -> usize {
-    if whole == 0 || 1000000 < part {
+    if whole == 0 || BYTES_LIMIT < part {
         return 0;
     }
     part * 100 / whole
