@@ -32,24 +32,34 @@ fn night(
     rebuilding::repair(g, lost, helpers, a, b, c);
 }
 
-// [3,2,2] from the nodes 3 and 1: its file has three sequences, and at the longest L each memory has just room for what it has to hold.
-fn three_nodes(lengths: &[usize], a: &mut [u8], b: &mut [u8], c: &mut [u8]) {
+// The same with each of these lengths in place of the group's own.
+fn nights(
+    lengths: &[usize],
+    g: Group,
+    ids: &[usize],
+    lost: usize,
+    helpers: &[usize],
+    a: &mut [u8],
+    b: &mut [u8],
+    c: &mut [u8],
+) {
     let mut i = 0;
     while i < lengths.len() {
-        let g = group::of(3, 2, 2, lengths[i]);
-        night(g, &[3, 1], 2, &[3, 1], a, b, c);
+        let longer = group::of(g.n, g.k, g.d, lengths[i]);
+        night(longer, ids, lost, helpers, a, b, c);
         i += 1;
     }
 }
 
+// [3,2,2] from the nodes 3 and 1: its file has three sequences, and at the longest L each memory has just room for what it has to hold.
+fn three_nodes(lengths: &[usize], a: &mut [u8], b: &mut [u8], c: &mut [u8]) {
+    nights(lengths, group::of(3, 2, 2, 0), &[3, 1], 2, &[3, 1], a, b, c);
+}
+
 // [5,3,4], whose pieces of ranks 2 and 3 wait for the others.
 fn five_nodes(lengths: &[usize], a: &mut [u8], b: &mut [u8], c: &mut [u8]) {
-    let mut i = 0;
-    while i < lengths.len() {
-        let g = group::of(5, 3, 4, lengths[i]);
-        night(g, &[5, 3, 2], 4, &[5, 3, 2, 1], a, b, c);
-        i += 1;
-    }
+    let g = group::of(5, 3, 4, 0);
+    nights(lengths, g, &[5, 3, 2], 4, &[5, 3, 2, 1], a, b, c);
 }
 
 // Room for three of the longest sequences, and for two; both with some letters more.

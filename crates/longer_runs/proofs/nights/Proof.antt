@@ -1,16 +1,16 @@
--- `five_nodes` is safe: each length comes once, and the memories keep their lengths.
+-- `nights` is safe: each length comes once, and the memories keep their lengths.
 use mathlib.Core.Path.{_≡_}
 use Prim.Native.Nat.{_-_, _≤_}
 use lib.ListN.{length}
 use borrow.Author.Needs.{needs}
-use Rattle.longer_runs.proofs.five_nodes.Statement.{statement}
-use Rattle.longer_runs.proofs.five_nodes.Tie as tie
+use Rattle.longer_runs.proofs.nights.Statement.{statement}
+use Rattle.longer_runs.proofs.nights.Tie as tie
 
 abbrev Inv-loop : tie.InvT-loop
-Inv-loop lengths a₀ b₀ c₀ i₀ t7 t8 a b c i = (i ≤ length lengths) × (length a ≡ length a₀) × (length b ≡ length b₀) × (length c ≡ length c₀)
+Inv-loop lengths g ids lost helpers a₀ b₀ c₀ i₀ a b c i = (i ≤ length lengths) × (length a ≡ length a₀) × (length b ≡ length b₀) × (length c ≡ length c₀)
 
 abbrev μ-loop : tie.MeasureT-loop
-μ-loop lengths a₀ b₀ c₀ i₀ t7 t8 a b c i = length lengths - i
+μ-loop lengths g ids lost helpers a₀ b₀ c₀ i₀ a b c i = length lengths - i
 
 loop-holds : tie.Need-loop-holds Inv-loop μ-loop
 loop-holds c = search needs
@@ -23,12 +23,6 @@ shared-slice-read-of c = search needs
 
 of-requires : tie.Need-of-requires Inv-loop μ-loop
 of-requires c κs = search needs
-
-slice-aggregate-night : tie.Need-slice-aggregate-night Inv-loop μ-loop
-slice-aggregate-night c = search needs
-
-slice-aggregate-night-2 : tie.Need-slice-aggregate-night-2 Inv-loop μ-loop
-slice-aggregate-night-2 c = search needs
 
 night-requires : tie.Need-night-requires Inv-loop μ-loop
 night-requires c κs = search needs
@@ -54,8 +48,8 @@ same-length-3 c = search needs
 returns : tie.Need-returns Inv-loop μ-loop
 returns c = search needs
 
-pub five-nodes-spec : {M : Type 1} → statement M
-five-nodes-spec =
+pub nights-spec : {M : Type 1} → statement M
+nights-spec =
     tie.close
     (tie.spec
     Inv-loop
@@ -64,8 +58,6 @@ five-nodes-spec =
     mul-of
     shared-slice-read-of
     of-requires
-    slice-aggregate-night
-    slice-aggregate-night-2
     night-requires
     add-i
     loop-less
