@@ -4,10 +4,11 @@ use mathlib.Core.List.{List}
 use Prim.Native.Nat.{ℕ, zero, suc}
 use lib.ListN.{length}
 use Rattle.group.specs.declared.Refusal.{Refusal}
-use Rattle.group.specs.declared.Refusal.the-variants.{Numbers, Length, Ids, Order, Input, Output, Unfinished, Kind, HeadNumber, Filler, Total, AfterEnd}
+use Rattle.group.specs.declared.Refusal.the-variants.{Numbers, Length, Ids, Order, Input, Output, Unfinished, Kind, HeadNumber, Filler, Total, AfterEnd, TooFew}
+use Rattle.group.specs.declared.Check.{Check}
 use Rattle.group.specs.declared.Answer.{Answer}
 use Rattle.group.specs.declared.Answer.the-variants.{Value, Refused}
-use Rattle.group.specs.Answers.{refusalNumber, numberOf, valueOf, ifFine, Answers, Called, SolvesInPlace}
+use Rattle.group.specs.Answers.{refusalNumber, checkNumber, numberOf, valueOf, ifFine, Answers, Called, SolvesInPlace}
 use Rattle.group.proofs.Refusals.{numbered}
 
 -- the refusal of a number
@@ -24,7 +25,8 @@ named (suc (suc (suc (suc (suc (suc (suc (suc zero)))))))) = Kind
 named (suc (suc (suc (suc (suc (suc (suc (suc (suc zero))))))))) = HeadNumber
 named (suc (suc (suc (suc (suc (suc (suc (suc (suc (suc zero)))))))))) = Filler
 named (suc (suc (suc (suc (suc (suc (suc (suc (suc (suc (suc zero))))))))))) = Total
-named (suc (suc (suc (suc (suc (suc (suc (suc (suc (suc (suc (suc n)))))))))))) = AfterEnd
+named (suc (suc (suc (suc (suc (suc (suc (suc (suc (suc (suc (suc zero)))))))))))) = AfterEnd
+named (suc (suc (suc (suc (suc (suc (suc (suc (suc (suc (suc (suc (suc n))))))))))))) = TooFew
 
 pub named-number : (r : Refusal) → named (refusalNumber r) ≡ r
 unfolding named
@@ -40,12 +42,20 @@ named-number HeadNumber = refl
 named-number Filler = refl
 named-number Total = refl
 named-number AfterEnd = refl
+named-number TooFew = refl
 
 -- no two refusals have one number
 pub refusal-once : (a b : Refusal) → refusalNumber a ≡ refusalNumber b → a ≡ b
 refusal-once a b e = sym (named-number a) ∙ ap named e ∙ named-number b
 
--- so two answers with one number and one value are one
+-- so two checks with one number are one
+pub check-once : (a b : Check) → checkNumber a ≡ checkNumber b → a ≡ b
+check-once Check.Fine Check.Fine e = refl
+check-once Check.Fine (Check.Refused b) e = absurd (numbered b (sym e))
+check-once (Check.Refused a) Check.Fine e = absurd (numbered a e)
+check-once (Check.Refused a) (Check.Refused b) e = ap Check.Refused (refusal-once a b e)
+
+-- and two answers with one number and one value
 pub same-answer : (r s : Answer) → numberOf r ≡ numberOf s → valueOf r ≡ valueOf s → r ≡ s
 same-answer (Value v) (Value w) e h = ap Value h
 same-answer (Value v) (Refused b) e h = absurd (numbered b (sym e))

@@ -7,7 +7,7 @@ use borrow.Author.Tests.{eqb-true, not-true, not-false}
 use native.Mathlib.Omega.{arith}
 use Rattle.letters.specs.Places.{both}
 use Rattle.group.specs.declared.Refusal.{Refusal}
-use Rattle.group.specs.declared.Refusal.the-variants.{Numbers, Length, Ids, Order, Input, Output, Unfinished, Kind, HeadNumber, Filler, Total, AfterEnd}
+use Rattle.group.specs.declared.Refusal.the-variants.{Numbers, Length, Ids, Order, Input, Output, Unfinished, Kind, HeadNumber, Filler, Total, AfterEnd, TooFew}
 use Rattle.group.specs.declared.Check.{Check}
 use Rattle.group.specs.declared.Answer.{Answer}
 use Rattle.group.specs.Answers.{refusalNumber, checkNumber, numberOf, valueOf, unless, first, ifFine, Answers}
@@ -26,6 +26,7 @@ numbered HeadNumber e = omega arith
 numbered Filler e = omega arith
 numbered Total e = omega arith
 numbered AfterEnd e = omega arith
+numbered TooFew e = omega arith
 
 -- and all have room in a byte
 pub small-number : (r : Refusal) → refusalNumber r < 256
@@ -41,6 +42,7 @@ small-number HeadNumber = omega arith
 small-number Filler = omega arith
 small-number Total = omega arith
 small-number AfterEnd = omega arith
+small-number TooFew = omega arith
 
 -- a test that is refused by no number holds, and one that holds is not refused
 pub unless-none : (b : Bool) (r : ℕ) → (r ≡ 0 → ⊥) → unless b r ≡ 0 → b ≡ true

@@ -5,7 +5,7 @@ use mathlib.Core.List.{List}
 use Prim.Native.Nat.{ℕ, zero, suc}
 use lib.ListN.{length}
 use Rattle.group.specs.declared.Refusal.{Refusal}
-use Rattle.group.specs.declared.Refusal.the-variants.{Numbers, Length, Ids, Order, Input, Output, Unfinished, Kind, HeadNumber, Filler, Total, AfterEnd}
+use Rattle.group.specs.declared.Refusal.the-variants.{Numbers, Length, Ids, Order, Input, Output, Unfinished, Kind, HeadNumber, Filler, Total, AfterEnd, TooFew}
 use Rattle.group.specs.declared.Check.{Check}
 use Rattle.group.specs.declared.Answer.{Answer}
 
@@ -23,6 +23,7 @@ refusalNumber HeadNumber = 9
 refusalNumber Filler = 10
 refusalNumber Total = 11
 refusalNumber AfterEnd = 12
+refusalNumber TooFew = 13
 
 -- a check's number: 0 where nothing is refused
 abbrev pub checkNumber : Check → ℕ

@@ -48,6 +48,8 @@ pub enum Refusal {
     Total,
     // 12: after the end.
     AfterEnd,
+    // 13: fewer nodes are present than k+2. It comes between 5 and 6.
+    TooFew,
 }
 
 // What a check finds.
@@ -79,6 +81,7 @@ pub fn refusal_number(refusal: Refusal) -> usize
         Refusal::Filler => 10,
         Refusal::Total => 11,
         Refusal::AfterEnd => 12,
+        Refusal::TooFew => 13,
     }
 }
 
