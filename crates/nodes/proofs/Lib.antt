@@ -1,3 +1,3 @@
 -- What the functions that make packets have in common.
-mod Columns
-mod Packets
+pub mod Columns
+pub mod Packets

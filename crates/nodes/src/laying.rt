@@ -71,7 +71,7 @@ fn lay_packet(
 }
 
 // How many rows of a column are to be summed: the others are in the zero corner.
-fn rows_used(g: Group, column: usize) -> usize
+pub fn rows_used(g: Group, column: usize) -> usize
     requires { ⌜ InRange g ⌝ }
     ensures { λ r. ⌜ RowsUsed g column r ⌝ }
 {

@@ -1,4 +1,4 @@
 // What a node holds: its packets of a file.
 pub mod encoding;
-mod laying;
+pub mod laying;
 mod summing;

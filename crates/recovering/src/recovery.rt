@@ -1,19 +1,14 @@
 // Recovery: the file from the pieces of k nodes.
+use crate::known;
 use group::Answer;
 use group::Check;
 use group::Group;
 use group::Refusal;
-use matrix::entries;
 use sequences::rows;
 ghost use mathlib.Core.Path.{_≡_};
-ghost use Prim.Native.Nat.{_+_, _-_, _*_, _≤_};
-ghost use Rattle.shifts.specs.Rule.{t};
 ghost use Rattle.group.specs.Answers.{checkNumber};
 ghost use Rattle.recovering.specs.Calls.{readersRefusal, Recovered};
 ghost use Rattle.recovering.specs.Steps.Checked.{Readers};
-ghost use Rattle.sequences.specs.Steps.Rows.{RowsOf};
-ghost use Rattle.columns.specs.Steps.Columns.{Collected};
-ghost use Rattle.recovering.specs.Steps.Recovery.{Column, Stage};
 
 // Turns the pieces in `buffer`, laid out as the file, into the file, in place: the one file that has those pieces, for any letters whatever.
 // The answer is how many letters that aren't zero it takes to add: the terms of document 01's sums whose letter isn't zero in the file that comes out.
@@ -48,30 +43,6 @@ fn recover_exact(g: Group, ids: &[usize], buffer: &mut [u8]) -> Answer
         return Answer::Refused(Refusal::Input);
     }
     let rows = rows::shift_rows(ids);
-    recover_columns(g, ids, &rows, buffer);
+    known::recover_columns(g, ids, &rows, buffer);
     Answer::Value(file_count::of_file(g, ids, &rows, buffer))
-}
-
-// The columns from the last one down: the later ones, solved by then, are taken out of each, and it is solved where it lies.
-fn recover_columns(g: Group, ids: &[usize], rows: &[usize], buffer: &mut [u8])
-    requires { ⌜ (Collected g (now ids) (now buffer)) × (RowsOf t (now ids) (now rows)) ⌝ }
-    ensures { λ _. ⌜ Stage g (now (ids .entry)) 0 (now (buffer .entry)) (now (buffer .exit)) ⌝ }
-{
-    let mut u = g.d;
-    while 0 < u {
-        recover_column(g, ids, rows, u, buffer);
-        u -= 1;
-    }
-}
-
-// Column `u`: its min(u,k) sequences are one part of the buffer.
-fn recover_column(g: Group, ids: &[usize], rows: &[usize], u: usize, buffer: &mut [u8])
-    requires { ⌜ (Collected g (now ids) (now buffer)) × (RowsOf t (now ids) (now rows)) × (1 ≤ u) × (u ≤ g .d) ⌝ }
-    ensures { λ _. ⌜ Column g (now (ids .entry)) u (now (buffer .entry)) (now (buffer .exit)) ⌝ }
-{
-    let s = letters::lesser(u, g.k);
-    let start = entries::sequences_before(g.k, u) * g.l;
-    let end = start + s * g.l;
-    columns::pull_column(g, ids, rows, u, buffer);
-    solving::solve(&mut buffer[start..end], s, g.l, rows);
 }

@@ -2,7 +2,7 @@
 use mathlib.Core.Path.{_≡_, refl, sym, ap, subst, _∙_}
 use mathlib.Core.List.{List}
 use mathlib.Core.Logic.{⊎-elim}
-use Prim.Native.Nat.{ℕ, _+_, _-_, _≤_, _<_}
+use Prim.Native.Nat.{ℕ, _+_, _-_, _^_, _≤_, _<_}
 use native.Mathlib.Nat.{add-zero}
 use native.Mathlib.Omega.{arith}
 use lib.Bits.{bitXor, xor-zero-r}
@@ -19,7 +19,7 @@ use Rattle.sums.specs.Sums.{runStart, sumAt, RunsInside}
 use Rattle.sums.proofs.Sums.{fits-at}
 use Rattle.sequences.specs.Moved.{moved}
 use Rattle.sequences.specs.Steps.Windows.{Seen, Adds, Summed}
-use Rattle.sequences.specs.Steps.MovedRuns.{runLetter, MovedRuns, AllSeen, Holding}
+use Rattle.sequences.specs.Steps.MovedRuns.{runLetter, MovedRuns, AllSeen, SeenFrom, Holding}
 use Rattle.sequences.proofs.PutBack.{back, back-length, back-before, back-inside}
 use Rattle.sequences.proofs.Summing.{part-adds}
 
@@ -66,8 +66,13 @@ module _ (from starts leads seen : List ℕ) (n size skip count : ℕ) (r : Move
       place : (s start lead : ℕ) → s ≡ start + (skip - lead) → lead ≤ skip → s + q ≡ start + (q + 1 + skip - lead - 1)
       place s start lead e h = omega arith
 
-  pub middle-summed : (before after : List ℕ) → length before ≡ count → Laid before after 0 (length before) (sumAt from seen n) → Holding from starts leads n size skip before after
+  pub seen-sum : (q : ℕ) → q < count → sumAt from seen n q ≡ moved xors n (runStart leads) (runLetter from starts size) (q + 1 + skip)
   unfolding sumAt moved
+  seen-sum q h =
+      sum-same xors n (λ u. getD from (runStart seen u + q) 0) (λ u. runLetter from starts size u (q + 1 + skip - runStart leads u))
+      (λ u lo hi. seen-letter u q lo hi h)
+
+  pub middle-summed : (before after : List ℕ) → length before ≡ count → Laid before after 0 (length before) (sumAt from seen n) → Holding from starts leads n size skip before after
   middle-summed before after long laid =
       record {
         same-length = laid .same-length;
@@ -76,8 +81,7 @@ module _ (from starts leads seen : List ℕ) (n size skip count : ℕ) (r : Move
               sums =
                   λ q h.
                   laid .laid q (omega arith) (omega (arith, laid .same-length))
-                  ∙ sum-same xors n (λ u. getD from (runStart seen u + q) 0) (λ u. runLetter from starts size u (q + 1 + skip - runStart leads u))
-                  (λ u lo hi. seen-letter u q lo hi (omega (arith, laid .same-length)));
+                  ∙ seen-sum q (omega (arith, laid .same-length));
             };
       }
 
@@ -128,6 +132,19 @@ summed-as n m skip shift shift′ x y buffer shifts letters zeros s =
 -- no run is moved past the window's start, where all are seen from its start on
 pub leads-at : (leads : List ℕ) (n size skip count : ℕ) → AllSeen leads n size skip 0 count → (u : ℕ) → u < n → getD leads u 0 ≤ skip
 leads-at leads n size skip count all u h = omega (arith, all .begun (u + 1) (omega arith) (omega arith), start-of leads u)
+
+-- so it can be told where each is seen from
+pub seen-from :
+    (starts leads : List ℕ) (n size skip count long : ℕ) → MovedRuns starts leads n size long → AllSeen leads n size skip 0 count → long < 2 ^ 64
+    → SeenFrom starts leads n skip
+seen-from starts leads n size skip count long r all room =
+    record {
+      many = r .inside .many;
+      led = r .led;
+      few = r .few;
+      begun = leads-at leads n size skip count all;
+      small = λ u h. omega (arith, fits-at starts n size long (r .inside) u h, all .going);
+    }
 
 -- seen from index a of the window on
 pub all-seen-on : (leads : List ℕ) (n size skip a e count : ℕ) → AllSeen leads n size skip a e → count ≡ e - a → AllSeen leads n size (skip + a) 0 count

@@ -1,10 +1,9 @@
 // Sums of several runs of one buffer, each from its own start, in one pass: each letter of the sum is written once, and nothing is cleared first.
 // A block of the sum is put together in local memory, which the compiler keeps in registers, and then laid down.
 mod apart;
-mod sources;
+pub mod sources;
 mod within;
 
-ghost use mathlib.Core.Path.{_≡_};
 ghost use Prim.Native.Nat.{_+_, _-_};
 ghost use lib.ListN.{length};
 ghost use Rattle.letters.specs.Laid.{Laid};

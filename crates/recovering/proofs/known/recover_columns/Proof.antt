@@ -1,11 +1,11 @@
--- `recovery::recover_columns` meets its contract: after each turn one column more is done.
+-- `known::recover_columns` meets its contract: after each turn one column more is done.
 use mathlib.Core.Path.{_≡_, subst, _∙_}
 use Prim.Native.Nat.{_≤_}
 use Rattle.recovering.specs.Steps.Recovery.{Stage}
 use Rattle.recovering.proofs.Stages.{stage-start, stage-next}
 use native.Mathlib.Omega.{arith}
-use Rattle.recovering.proofs.recovery.recover_columns.Statement.{statement}
-use Rattle.recovering.proofs.recovery.recover_columns.Tie as tie
+use Rattle.recovering.proofs.known.recover_columns.Statement.{statement}
+use Rattle.recovering.proofs.known.recover_columns.Tie as tie
 
 abbrev Inv-loop : tie.InvT-loop
 Inv-loop g ids rows buffer₀ u₀ buffer u = (u ≤ g .d) × Stage g ids u buffer₀ buffer

@@ -1,4 +1,4 @@
--- `recovery::recover_column` meets its contract: the later columns are taken out of the column, which is then one part of the buffer that the solver has.
+-- `known::recover_column` meets its contract: the later columns are taken out of the column, which is then one part of the buffer that the solver has.
 use native.Mathlib.Omega.{arith}
 use mathlib.Core.Path.{sym, ap, subst, _∙_}
 use Prim.Native.Nat.{_+_, _*_}
@@ -10,8 +10,8 @@ use Rattle.recovering.proofs.SolveColumn.{column-fits, lent-size, lent-
 use Rattle.group.specs.Ranges.{longest}
 use Rattle.columns.specs.Steps.Columns.{Collected}
 use borrow.Author.Needs.{needs}
-use Rattle.recovering.proofs.recovery.recover_column.Statement.{statement}
-use Rattle.recovering.proofs.recovery.recover_column.Tie as tie
+use Rattle.recovering.proofs.known.recover_column.Statement.{statement}
+use Rattle.recovering.proofs.known.recover_column.Tie as tie
 
 lesser-requires : tie.Need-lesser-requires
 lesser-requires c κs = search needs
