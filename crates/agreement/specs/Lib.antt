@@ -1,0 +1,3 @@
+-- Whether nodes agree.
+pub mod Agreement
+pub mod Steps
