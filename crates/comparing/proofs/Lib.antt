@@ -1,0 +1,2 @@
+-- Laws of comparing.
+pub mod Packets

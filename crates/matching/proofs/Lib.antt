@@ -1,0 +1,3 @@
+-- Laws of letters that are the same.
+pub mod HowFar
+pub mod Parts

@@ -1,0 +1,3 @@
+-- Letters that are the same.
+pub mod Same
+pub mod Windows
