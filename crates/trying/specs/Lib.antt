@@ -1,0 +1,3 @@
+-- What a search among the nodes finds.
+pub mod Searched
+pub mod Steps

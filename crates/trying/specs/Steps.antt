@@ -1,0 +1,3 @@
+-- What functions leave between two statements: for contracts of inner functions alone.
+pub mod Places
+pub mod Noting
