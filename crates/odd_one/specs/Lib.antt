@@ -1,0 +1,3 @@
+-- Which node is lying.
+pub mod Calls
+pub mod Steps
