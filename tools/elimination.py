@@ -99,6 +99,75 @@ def solved(rows, letters, most=300, both=60):
     return answer
 
 
+# systems of more equations than unknowns: the one answer that satisfies all of them, or none
+
+
+def any_by_gauss(rows, letters, size):
+    """Each equation is added up with those kept, until it has no unknown left or starts with one that none of those kept starts with:
+    then it is kept too. Without an unknown it must say that zero is zero."""
+    kept, unknowns = {}, (1 << size) - 1
+    for row, letter in zip(rows, letters):
+        bits = letter << size
+        for unknown in row:
+            bits ^= 1 << unknown
+        while bits & unknowns and bits & -bits in kept:
+            bits ^= kept[bits & -bits]
+        if bits & unknowns:
+            kept[bits & -bits] = bits
+        elif bits:
+            return None
+    answer = [0] * size
+    for unknown in reversed(range(size)):
+        bits = kept[1 << unknown]
+        answer[unknown] = bits >> size
+        for later in range(unknown + 1, size):
+            if bits >> later & 1:
+                answer[unknown] ^= answer[later]
+    return answer
+
+
+def any_by_substitution(rows, letters, size):
+    """Any equation that has a single unknown left gives its value, which is taken out of all others that have it. One without an unknown
+    must say that zero is zero. Of the unknowns that are left in an equation their number and their sum are kept: a single one is the sum."""
+    value, rest = [None] * size, list(letters)
+    many, total = [len(row) for row in rows], [sum(row) for row in rows]
+    users = [[] for _ in range(size)]
+    for i, row in enumerate(rows):
+        for unknown in row:
+            users[unknown].append(i)
+    if any(letter for letter, count in zip(rest, many) if count == 0):
+        return None
+    single = [i for i, count in enumerate(many) if count == 1]
+    while single:
+        i = single.pop()
+        if many[i] == 0:
+            continue
+        found, letter = total[i], rest[i]
+        value[found] = letter
+        for j in users[found]:
+            many[j] -= 1
+            total[j] -= found
+            rest[j] ^= letter
+            if many[j] == 1:
+                single.append(j)
+            elif many[j] == 0 and rest[j]:
+                return None
+    assert None not in value
+    return value
+
+
+def any_solution(rows, letters, size, most=100, both=45):
+    """The answer or none, with up to `most` unknowns by Gauss's method, with more by substitution, with up to `both` by both, which must agree.
+    An answer is put back into every equation."""
+    if size <= most:
+        answer = any_by_gauss(rows, letters, size)
+        assert size > both or answer == any_by_substitution(rows, letters, size)
+    else:
+        answer = any_by_substitution(rows, letters, size)
+    assert answer is None or summed(rows, answer) == bytes(letters)
+    return answer
+
+
 # counts (docs/SCHEME.md, 8): one for each term whose letter, in what comes out, isn't zero. Beside each count stands the full sum, of the terms
 # whose letter is inside its sequence, whatever it is
 

@@ -1,5 +1,5 @@
-"""Document 01's lengths, places and sums (docs/SCHEME.md, 3 to 8), which the two models of the repairing code share, tools/store_model and
-tools/longer_model.py.
+"""Document 01's lengths, places and sums (docs/SCHEME.md, 3 to 8), which the models of the repairing code share, tools/store_model,
+tools/odd_model.py and tools/longer_model.py.
 
 Packets and a helper's piece are sums of moved sequences. Recovery and repair write out, for every letter of a buffer, which unknown letters it is the sum
 of, and solve these equations by elimination (tools/elimination.py): all letters of all columns at once, in no order of ours. The counts go term by term
