@@ -1,6 +1,6 @@
 /* Each call of the library beside its plain C version, on the same letters, compared. With the word `time` each is timed; with `count`, under
  * valgrind's callgrind or under bench/count.c, its instructions are counted. With the word `packets` after it, encode, recover, help and repair alone,
- * and encode and recover of previews. bench/run makes the tables. */
+ * and encode and recover of previews; with `odd`, the call that tells which node is odd, alone. bench/run makes the tables. */
 #include "../include/dulvaspen.h"
 #include "plain.h"
 /* run addition alone, of the crate bench_runs; with its report, and the report alone, of bench_counts */
@@ -198,6 +198,78 @@ static void recovery(uint64_t letters) {
     summed("recover", outside);
 }
 
+/* ---- which node is odd: all n nodes present, their packets one after another in in_blocks ---- */
+
+static uint64_t falling[16], place_of[17], report[DULVASPEN_REPORT_NUMBERS]; /* the ids; where what node i holds begins, and at 0 where all ends */
+
+/* A recovery from the pieces of the first k ids and an encoding of each node: what the call is measured by. */
+static uint64_t recover_and_encode(uint64_t letters) {
+    uint64_t r = dulvaspen_recover(g.n, g.k, g.d, g.l, falling, g.k, want, letters, &count_ours);
+    for (uint64_t i = 1; i <= g.n; i++) r |= dulvaspen_encode(g.n, g.k, g.d, g.l, i, want, letters, in_tiles + place_of[i], held[i]);
+    return r;
+}
+
+/* A call, and whether it tells what it must: all present nodes of this state, but for the odd one, if any, whose first wrong letter stands at this place. */
+static void odd_call(const char *name, uint64_t letters, uint64_t state_of_all, uint64_t odd, uint64_t place) {
+    MEASURE(name, "ours", got, letters, dulvaspen_odd(g.n, g.k, g.d, g.l, falling, g.n, in_blocks, place_of[0], got, letters, report, DULVASPEN_REPORT_NUMBERS));
+    for (uint64_t i = 1; i <= 16; i++) {
+        uint64_t is_odd = i == odd, here = i > g.n ? DULVASPEN_NODE_ABSENT : is_odd ? DULVASPEN_NODE_ODD : state_of_all;
+        if (report[2 * i - 2] != here || report[2 * i - 1] != (is_odd ? place : 0)) stop(name, i);
+    }
+    for (uint64_t i = 0; i < letters; i++) if (got[i] != (state_of_all == DULVASPEN_NODE_UNKNOWN ? 0 : file[i])) stop(name, 98);
+    printf("odd %s %llu,%llu,%llu %llu\n", name, (unsigned long long)g.n, (unsigned long long)g.k, (unsigned long long)g.d, (unsigned long long)g.l);
+}
+
+/* All agree; each of the first k ids odd in turn, in the first and in the last letter of the first and of the last piece that it sends, since a letter that
+ * isn't sent is found without another recovery; the last id odd in its last letter; and two wrong: the first two, in a letter that they send, and the last
+ * two in their last letters, so that each of the k+1 tries compares all letters. */
+static void odd_nodes(void) {
+    uint64_t letters, from, to;
+    dulvaspen_file_letters(g.n, g.k, g.d, g.l, &letters);
+    place_of[0] = 0;
+    for (uint64_t v = 1; v <= g.n; v++) {
+        uint64_t i = falling[v - 1] = g.n + 1 - v;
+        dulvaspen_packet_letters(g.n, g.k, g.d, g.l, i, &held[i]);
+        place_of[i] = place_of[0];
+        place_of[0] += held[i];
+        if (dulvaspen_encode(g.n, g.k, g.d, g.l, i, file, letters, in_blocks + place_of[i], held[i])) stop("encode", i);
+        for (uint64_t u = v; v <= g.k && u <= g.d; u++) {
+            if (dulvaspen_piece(g.n, g.k, g.d, g.l, i, v, u, in_blocks + place_of[i], held[i], &from) || dulvaspen_entry(g.n, g.k, g.d, g.l, v, u, &to)) stop("piece", i);
+            memcpy(input + to, in_blocks + place_of[i] + from, g.l);
+        }
+    }
+    MEASURE("odd-beside", "ours", want, letters, recover_and_encode(letters));
+    if (memcmp(want, file, letters) || memcmp(in_tiles, in_blocks, place_of[0])) stop("a recovery and encodings", 98);
+    odd_call("odd-all", letters, DULVASPEN_NODE_AGREEING, 0, 0);
+    for (uint64_t v = 1; v <= g.k; v++)
+        for (int which = 1; which <= 4; which++) {
+            uint64_t i = falling[v - 1];
+            char name[40];
+            dulvaspen_piece(g.n, g.k, g.d, g.l, i, v, which <= 2 ? v : g.d, in_blocks + place_of[i], held[i], &from);
+            if (which % 2 == 0) from += g.l - 1;
+            snprintf(name, sizeof name, "odd-rank-%d-%d", (int)v, which);
+            in_blocks[place_of[i] + from] ^= 1;
+            odd_call(name, letters, DULVASPEN_NODE_AGREEING, i, from + 1);
+            in_blocks[place_of[i] + from] ^= 1;
+        }
+    in_blocks[place_of[0] - 1] ^= 1;
+    odd_call("odd-behind", letters, DULVASPEN_NODE_AGREEING, 1, held[1]);
+    in_blocks[place_of[1] - 1] ^= 1;
+    odd_call("odd-two-behind", letters, DULVASPEN_NODE_UNKNOWN, 0, 0);
+    in_blocks[place_of[1] - 1] ^= 1;
+    in_blocks[place_of[0] - 1] ^= 1;
+    for (uint64_t v = 1; v <= 2; v++) {
+        dulvaspen_piece(g.n, g.k, g.d, g.l, falling[v - 1], v, g.d, in_blocks, held[falling[v - 1]], &from);
+        in_blocks[place_of[falling[v - 1]] + from] ^= 1;
+    }
+    odd_call("odd-two-first", letters, DULVASPEN_NODE_UNKNOWN, 0, 0);
+}
+
+static void odd_groups(void) {
+    static const group compared[] = {{6, 3, 4, 64}, {6, 3, 4, 4096}, {16, 10, 12, 64}, {16, 10, 12, 4096}};
+    for (int i = 0; i < 4; i++) { g = compared[i]; odd_nodes(); }
+}
+
 static void repair(void) {
     uint64_t helpers[16], lost = 1 + g.n / 2, length, u = 0;
     dulvaspen_repair_letters(g.n, g.k, g.d, g.l, lost, &length);
@@ -378,14 +450,18 @@ int main(int argc, char **argv) {
     static const group groups[] = {{6, 3, 4, 0}, {16, 4, 6, 0}, {16, 10, 12, 0}, {16, 15, 15, 0}}, of_previews[] = {{6, 3, 0, 0}, {16, 10, 0, 0}, {16, 16, 0, 0}};
     static const group longer[] = {{6, 3, 4, 65536}, {6, 3, 4, 1048576}, {16, 4, 6, 65536}, {16, 4, 6, 1048576}, {16, 15, 15, 65536}};
     static const uint64_t lengths[] = {64, 4096}, run_lengths[] = {7, 64, 100, 4096};
-    int packets_alone = argc == 3 && !strcmp(argv[2], "packets");
-    if (argc != 2 + packets_alone || (strcmp(argv[1], "time") && strcmp(argv[1], "count"))) {
-        fprintf(stderr, "bench: say time or count, and then packets or nothing\n");
+    int packets_alone = argc == 3 && !strcmp(argv[2], "packets"), odd_alone = argc == 3 && !strcmp(argv[2], "odd");
+    if (argc != 2 + packets_alone + odd_alone || (strcmp(argv[1], "time") && strcmp(argv[1], "count"))) {
+        fprintf(stderr, "bench: say time or count, and then packets, odd or nothing\n");
         return 2;
     }
     timing = !strcmp(argv[1], "time");
-    for (uint64_t i = 0; i < (packets_alone ? 1 << 20 : FILE_ROOM); i++) file[i] = (uint8_t)(i * 131 + (i >> 7) * 29 + (i >> 13));
+    for (uint64_t i = 0; i < (argc == 3 ? 1 << 20 : FILE_ROOM); i++) file[i] = (uint8_t)(i * 131 + (i >> 7) * 29 + (i >> 13));
     MEASURE("nothing", "ours", got, 0, 0);
+    if (odd_alone) {
+        odd_groups();
+        return 0;
+    }
     for (int i = 0; i < 4 && !packets_alone; i++) runs(run_lengths[i]);
     if (!packets_alone) short_runs();
     for (int i = 0; i < 4 && !packets_alone; i++) { g = groups[i]; odd_lengths(); }
@@ -405,5 +481,6 @@ int main(int argc, char **argv) {
             previews();
             if (!packets_alone && !j) preview_share();
         }
+    if (!packets_alone) odd_groups();
     return 0;
 }

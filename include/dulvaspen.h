@@ -34,10 +34,12 @@
  *  11  a byte of the total, T
  *  12  after the end
  *
- * (Reading and judging a share decide 7 to 12 before 6. dulvaspen_good_bytes tells the index of that first byte.) A refused call changes
- * nothing that it was lent: no letter of a buffer, and no number behind a pointer. Lengths are in letters, which are bytes. A pointer may be
- * anything where its length is 0; pointers to numbers must be valid. Nothing is allocated or kept, and calls on different buffers may run at
- * the same time.
+ *  13  fewer than k+2 nodes, too few to say which one is odd: of dulvaspen_odd alone
+ *
+ * (Reading and judging a share decide 7 to 12 before 6, and dulvaspen_odd 13 before 6. dulvaspen_good_bytes tells the index of that first
+ * byte.) A refused call changes nothing that it was lent: no letter of a buffer, and no number behind a pointer. Lengths are in letters, which
+ * are bytes. A pointer may be anything where its length is 0; pointers to numbers must be valid. Nothing is allocated or kept, and calls on
+ * different buffers may run at the same time.
  *
  * A share is a node's packets as stored bytes. Numbers are least byte first:
  *
@@ -50,14 +52,15 @@
  *   then          65      where 64 doesn't divide T a last block: 3, its kind, the other letters, and zeros up to 64
  *   then          5       4, the kind of the end, and T in 4 bytes
  *
- * BEFORE YOU RECOVER OR REPAIR, judge each share and compare the heads: n, k, d, L, batch and kind must be equal in all of them, and the nodes
- * must all differ. No call can do it, since recover and help are handed letters and not shares; and packets of two batches give letters of
- * neither. The ids to hand on are the nodes of the heads, sorted so that they fall.
+ * BEFORE YOU RECOVER, REPAIR OR COMPARE, judge each share and compare the heads: n, k, d, L, batch and kind must be equal in all of them, and the
+ * nodes must all differ. No call can do it, since recover, help and odd are handed letters and not shares; and packets of two batches give
+ * letters of neither. The ids to hand on are the nodes of the heads, sorted so that they fall.
  *
  * A complete share says nothing of the shares that should stand beside it: where several stand in one file, a file that was cut between
  * two of them holds complete shares only. Keep how many there are, or the real length, where it is not cut with them, and count
  * (examples/spread.c keeps the length in the first letters of a file's first batch). Nor is a flipped letter noticed: every letter may be
- * any byte. docs/SCHEME.md, 10, says what does notice it.
+ * any byte. dulvaspen_odd notices it where k+2 nodes or more can be compared, and names the node where it is one alone
+ * (examples/odd.c; docs/SCHEME.md, 10).
  *
  * The archive is made by `tools/library` (target/staticlib/libdulvaspen.a, for x86-64 Linux):
  *
@@ -75,8 +78,8 @@
 /* The version of this header and of the library that it was installed with. MAJOR rises where a call or a number changes its meaning, MINOR
  * where something is added. */
 #define DULVASPEN_VERSION_MAJOR 5
-#define DULVASPEN_VERSION_MINOR 0
-#define DULVASPEN_VERSION "5.0"
+#define DULVASPEN_VERSION_MINOR 1
+#define DULVASPEN_VERSION "5.1"
 
 /* Share bytes were found to be neither a share nor the beginning of one, whatever is wrong with them: any of the numbers 8 to 12. (In version 1
  * that was 8 alone.) */
@@ -90,6 +93,7 @@
 #define DULVASPEN_MOST_PACKETS 15731790 /* T = 15 * (1,048,576 + 15 * 14), a repair's buffer, too */
 #define DULVASPEN_MOST_PIECE 1048786    /* L' = 1,048,576 + 15 * 14, one helper's piece */
 #define DULVASPEN_MOST_SHARE 15977668   /* bytes: 13 + 65 * 245,810 + 5 */
+#define DULVASPEN_MOST_TOGETHER 251683440 /* what all 16 nodes hold with d = 15, dulvaspen_odd's packets: 15 * (16 * 1,048,576 + 120 * 14) */
 
 /* The same where L is at most 4,096, so that the head of a share is of kind 1: for callers who keep to that. A share that comes from elsewhere may
  * still have a longer L: its head tells. */
@@ -98,9 +102,11 @@
 #define DULVASPEN_SHORT_PACKETS 64590   /* T = 15 * (4,096 + 15 * 14) */
 #define DULVASPEN_SHORT_PIECE 4306      /* L' = 4,096 + 15 * 14 */
 #define DULVASPEN_SHORT_SHARE 65666     /* bytes: 11 + 65 * 1,010 + 5 */
+#define DULVASPEN_SHORT_TOGETHER 1008240 /* 15 * (16 * 4,096 + 120 * 14) */
 
 #define DULVASPEN_HEAD_NUMBERS 7       /* n, k, d, node, L, batch, kind (in version 2 six, without the kind) */
 #define DULVASPEN_ARRIVING_WORDS 9     /* the state of a share that arrives (in version 2 eight) */
+#define DULVASPEN_REPORT_NUMBERS 32    /* dulvaspen_odd's report: of each of 16 nodes its state and a place */
 
 /* The same of previews: the file of k = 16; packet and share of node 16 with k = 16; with L = 4,096. */
 #define DULVASPEN_MOST_PREVIEW_FILE 65536  /* k*L = 16 * 4,096, the collector's buffer, too */
@@ -111,6 +117,12 @@
 #define DULVASPEN_KIND_PACKETS 1       /* a node's packets, of the code that is repaired, where L is at most 4,096 */
 #define DULVASPEN_KIND_PREVIEW 5       /* a node's packet of a preview */
 #define DULVASPEN_KIND_LONGER 6        /* a node's packets where L is more than 4,096 */
+
+/* The states of a node: report[2*(node-1)] of dulvaspen_odd. */
+#define DULVASPEN_NODE_ABSENT 0        /* its id isn't among those that were handed */
+#define DULVASPEN_NODE_AGREEING 1      /* it holds what the file of all gives it, or of all but the odd one */
+#define DULVASPEN_NODE_UNKNOWN 2       /* more than one node is wrong, so nothing can be said of any */
+#define DULVASPEN_NODE_ODD 3           /* it alone is wrong: all without it agree, and all with it don't */
 
 #ifdef __cplusplus
 extern "C" {
@@ -176,6 +188,32 @@ uint64_t dulvaspen_help(uint64_t n, uint64_t k, uint64_t d, uint64_t l, uint64_t
  * that have to be added, as dulvaspen_recover has it. Refusals: 1, 2, 3, 4, 5. */
 uint64_t dulvaspen_repair(uint64_t n, uint64_t k, uint64_t d, uint64_t l, uint64_t lost, const uint64_t *helpers, uint64_t helpers_len,
                           uint8_t *buffer, uint64_t buffer_len, uint64_t *count);
+
+/* ---- which node is odd: k+2 nodes or more compared with each other ---- */
+
+/* Says of each node whether it holds what the others hold, to the letter. ids are the nodes that are present, strictly falling, k+2 of them or more
+ * (else 13; any number up to n is taken, and a group with k = n-1 never has enough); packets is what they hold, their T letters each, one node after
+ * another in that order. Nodes agree where some file gives all of them what they hold. One of three is said:
+ *
+ *   all agree              every present node is DULVASPEN_NODE_AGREEING, and file holds their file
+ *   one node alone is odd  not all agree, but all without it do: it is DULVASPEN_NODE_ODD, the others are DULVASPEN_NODE_AGREEING, and file
+ *                          holds the file of the others
+ *   more than one is wrong every present node is DULVASPEN_NODE_UNKNOWN, and file is all zero
+ *
+ * report[2*(node-1)] is the state of a node, and report[2*(node-1)+1], where it is odd, the place of its first wrong letter against the file of the
+ * others, from 1 through all its packets, so that it is packets[place-1] of that node; else 0. The numbers of nodes that aren't present, up to node 16,
+ * are 0.
+ *
+ * The packets are read and not changed. Where all agree, or the odd one isn't among the first k ids, it takes one recovery and compares each node once;
+ * never more than k+1 recoveries, and no room but what is lent. To have an odd node right again, rebuild it from d others: examples/odd.c.
+ * It compares nodes with each other, and knows nothing of what was once written: where all but one were changed alike, that one is odd.
+ *
+ * packets_len must be the sum of the present nodes' T (else 5), file_len B*L and report_len 32 (else 6). An id outside 1..n is 3; how many there are isn't
+ * 3 but 13. Refusals: 1, 2, 3, 4, 5, then 13, then 6.
+ * Example: n 4, k 2, d 2, l 1, the ids 4, 3, 2, 1 and 2 + 4 + 6 + 8 = 20 letters, where only the last letter of node 2, the 18th of packets, was
+ * flipped: 0, report is 1,0 3,4 1,0 1,0 and then 24 zeros, and file has the 3 letters of the batch. */
+uint64_t dulvaspen_odd(uint64_t n, uint64_t k, uint64_t d, uint64_t l, const uint64_t *ids, uint64_t ids_len, const uint8_t *packets,
+                       uint64_t packets_len, uint8_t *file, uint64_t file_len, uint64_t *report, uint64_t report_len);
 
 /* ---- shares: a node's packets as stored bytes ---- */
 

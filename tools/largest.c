@@ -6,26 +6,29 @@
 #include <stdio.h>
 #include <string.h>
 
-enum { SIZES = 11, SHORT = 7 };
-static uint64_t most[SIZES]; /* file, packets, piece for a repair, share; of previews file, packet, share; and the first four again where L is at most 4,096 */
+enum { SIZES = 13, SHORT = 8 };
+static uint64_t most[SIZES]; /* file, packets, piece for a repair, share, all nodes' packets; of previews file, packet, share; and the first five again where L is at
+                                most 4,096 */
 
 static void keep(int which, uint64_t refusal, uint64_t value) {
     if (!refusal && most[which] < value) most[which] = value;
 }
 
-/* One of the first four, and where L is short its other one, too. */
+/* One of the first five, and where L is short its other one, too. */
 static void keep_by(int which, uint64_t l, uint64_t refusal, uint64_t value) {
     keep(which, refusal, value);
     if (l <= DULVASPEN_SHORT_LENGTH) keep(SHORT + which, refusal, value);
 }
 
 static void ask(uint64_t n, uint64_t k, uint64_t d, uint64_t l) {
-    uint64_t value = 0, refusal;
+    uint64_t value = 0, together = 0, refusal;
     refusal = dulvaspen_file_letters(n, k, d, l, &value);
     keep_by(0, l, refusal, value);
     for (uint64_t node = 1; node <= n; node++) {
         refusal = dulvaspen_packet_letters(n, k, d, l, node, &value);
         keep_by(1, l, refusal, value);
+        together += value;
+        if (node >= k + 2) keep_by(4, l, refusal, together); /* as many as are compared */
         refusal = dulvaspen_repair_letters(n, k, d, l, node, &value);
         keep_by(2, l, refusal, value);
         refusal = dulvaspen_share_bytes(n, k, d, l, node, &value);
@@ -36,12 +39,12 @@ static void ask(uint64_t n, uint64_t k, uint64_t d, uint64_t l) {
 static void ask_previews(uint64_t n, uint64_t k, uint64_t l) {
     uint64_t value = 0, refusal;
     refusal = dulvaspen_preview_file_letters(n, k, l, &value);
-    keep(4, refusal, value);
+    keep(5, refusal, value);
     for (uint64_t node = 1; node <= n; node++) {
         refusal = dulvaspen_preview_packet_letters(n, k, l, node, &value);
-        keep(5, refusal, value);
-        refusal = dulvaspen_preview_share_bytes(n, k, l, node, &value);
         keep(6, refusal, value);
+        refusal = dulvaspen_preview_share_bytes(n, k, l, node, &value);
+        keep(7, refusal, value);
     }
 }
 
@@ -92,11 +95,11 @@ static int state_of(uint64_t words, uint64_t word) {
 }
 
 int main(void) {
-    static const uint64_t said[SIZES] = {DULVASPEN_MOST_FILE, DULVASPEN_MOST_PACKETS, DULVASPEN_MOST_PIECE, DULVASPEN_MOST_SHARE, DULVASPEN_MOST_PREVIEW_FILE,
-                                         DULVASPEN_MOST_PREVIEW_PACKET, DULVASPEN_MOST_PREVIEW_SHARE, DULVASPEN_SHORT_FILE, DULVASPEN_SHORT_PACKETS,
-                                         DULVASPEN_SHORT_PIECE, DULVASPEN_SHORT_SHARE};
-    static const char *names[SIZES] = {"file", "packets", "piece", "share", "preview", "preview's packet", "preview's share",
-                                       "short file", "short packets", "short piece", "short share"};
+    static const uint64_t said[SIZES] = {DULVASPEN_MOST_FILE, DULVASPEN_MOST_PACKETS, DULVASPEN_MOST_PIECE, DULVASPEN_MOST_SHARE, DULVASPEN_MOST_TOGETHER,
+                                         DULVASPEN_MOST_PREVIEW_FILE, DULVASPEN_MOST_PREVIEW_PACKET, DULVASPEN_MOST_PREVIEW_SHARE, DULVASPEN_SHORT_FILE,
+                                         DULVASPEN_SHORT_PACKETS, DULVASPEN_SHORT_PIECE, DULVASPEN_SHORT_SHARE, DULVASPEN_SHORT_TOGETHER};
+    static const char *names[SIZES] = {"file", "packets", "piece", "share", "all nodes' packets", "preview", "preview's packet", "preview's share",
+                                       "short file", "short packets", "short piece", "short share", "all nodes' short packets"};
     char version[24];
     int wrong = 0;
     for (uint64_t n = 0; n <= 20; n++)

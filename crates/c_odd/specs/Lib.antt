@@ -1,0 +1,2 @@
+-- Which node is lying, for C.
+pub mod Odd
