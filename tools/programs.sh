@@ -57,6 +57,29 @@ proved program to run. A letter that was flipped on the way is not noticed.
   tee COPY < examples/complete.share | ${called}watch
 END
         ;;
+    odd) cat <<END
+${called}odd FILE FILE...
+
+Compares the shares of one batch, in any order, and says of each node whether it agrees with the others; of one that doesn't,
+where its first wrong letter stands. It takes k+2 nodes or more: with them one wrong node can be told, whichever it is.
+
+  a.share: node 6 agrees
+  b.share: node 3 is odd: its first wrong letter is letter 17 of packet 2, at index 1234, from 0, of this file
+  c.share: node 3: can't be told
+  all 6 nodes agree                                    the last line has the answer
+  node 3 alone is odd: the 5 others agree
+  more than one node is wrong: nothing can be said of any of them
+
+Letters and packets count from 1, and the index in the file from 0. What is in the way of an answer is said on standard error, of
+every file: one that can't be read, is unfinished or malformed, holds previews, is of another group or batch than the first, or
+of a node that was there before; or too few. Each file is read twice, so it must stay as it is meanwhile. All shares together have
+at most 3,932,160 letters, and a share 1,048,576 bytes; of longer batches the library's call tells the same.
+
+Exit status: 0 all agree, 1 one is odd, 3 more than one is wrong, 5 no answer, 2 no proved program to run.
+
+  ${called}odd /disks/*/0001.share
+END
+        ;;
     tour) cat <<END
 ${called}tour
 
@@ -140,6 +163,25 @@ judge_all() {
     return "$worst"
 }
 
+# The status of the last line that odd wrote; an empty one means that something is in the way of an answer, which it has said.
+status_of_answer() {
+    case $1 in
+    'all '*' nodes agree') echo 0 ;;
+    'node '*' alone is odd: '*) echo 1 ;;
+    'more than one node is wrong: '*) echo 3 ;;
+    *) echo 5 ;;
+    esac
+}
+
+# Compares the shares of a batch. The program's memories are on its stack.
+compare_shares() {
+    said=$(start odd "$@") || { echo "odd: the program itself failed; it needs a stack of 8 MiB (ulimit -s)" >&2; return 2; }
+    [ -n "$said" ] || return 5
+    printf '%s\n' "$said" || return 5
+    return "$(status_of_answer "${said##*
+}")"
+}
+
 # Writes what a program writes. The status is 0 where the last line ends with these words and no line has a NOT.
 run_and_look() {
     said=$(start "$1") || { echo "$1: the program itself failed" >&2; return 2; }
@@ -162,6 +204,7 @@ run_program() {
     case $name in
     judge) judge_all "$@" ;;
     watch) watch_input "$@" ;;
+    odd) compare_shares "$@" ;;
     tour) run_and_look tour 'It is the batch, letter for letter.' ;;
     desk) run_and_look desk 'lines of the examples agree: all' ;;
     *) start "$name" "$@" ;;
