@@ -3,12 +3,13 @@
 
     python3 tools/house.py > docs/house.svg
 
-Green boxes are the library, blue ones its programs. The tests, grey, stand in a row of their own above the house: under each is what it stands on.
+Green boxes are the library, blue ones its programs and what only they need. The tests, grey, stand in a row of their own above the house: under each is what
+it stands on.
 """
 
-PROGRAMS = {"judge", "watch", "tour"}
-TESTS = {"examples", "desk", "marks", "calls", "disks", "rescue", "lines", "script_line", "script", "store_runs", "share_runs", "verdict_runs", "longer_runs",
-         "judged_words", "arriving_words", "arriving_runs", "preview_calls", "preview_runs", "lending", "bench_runs", "bench_counts"}
+PROGRAMS = {"judge", "watch", "tour", "odd", "odd_words", "odd_problems", "odd_files", "odd_letters"}
+TESTS = {"examples", "desk", "marks", "calls", "disks", "rescue", "lines", "script_line", "script", "store_runs", "odd_runs", "share_runs", "verdict_runs",
+         "longer_runs", "judged_words", "arriving_words", "arriving_runs", "preview_calls", "preview_runs", "lending", "bench_runs", "bench_counts"}
 WIDTH, HEIGHT, GAP, RISE, LANE = 92, 28, 16, 70, 14
 LONGEST = 12  # letters of a name that fit into a box as they are; longer ones are written smaller
 
