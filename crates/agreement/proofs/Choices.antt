@@ -125,11 +125,11 @@ module _ (g : Group) (ids : List ℕ) (present : Chosen g (length ids) ids) wher
     free-entry v u lv hv hu = record { group = present .group; row = lv; within = omega arith; upper = omega arith; column = hu }
 
     -- what is collected of nodes that hold a file's packets is what reading it gives
-    pub collected-reading :
+    pub honest-collected :
         (file : List ℕ) (held : ℕ → List ℕ) → ((v : ℕ) → 1 ≤ v → v ≤ g .k → packets xors g file (ranked kept v) ≡ held v)
         → collected g kept held ≡ reading xors g file kept
     unfolding collected reading piece
-    collected-reading file held honest =
+    honest-collected file held honest =
         is-asFile 0 g (present .group) (pieceLetter xors g file kept) (asFile g f) (length-asFile 0 g (present .group) f)
         (λ u v p lu hu lv hv lp hp.
         asFile-at 0 g (present .group) f u v p lu hu lv hv lp hp
@@ -153,5 +153,5 @@ module _ (g : Group) (ids : List ℕ) (present : Chosen g (length ids) ids) wher
         → ((v : ℕ) → 1 ≤ v → v ≤ g .k → packets xors g file (ranked ids (rank v)) ≡ packets xors g other (ranked ids (rank v))) → file ≡ other
     two-files file other long long′ same =
         reading-once bytes g kept kept-chosen file other long long′
-        (sym (collected-reading file (λ v. packets xors g other (ranked kept v)) (λ v lo hi. rw (kept-id v lo hi) (same v lo hi)))
-        ∙ collected-reading other (λ v. packets xors g other (ranked kept v)) (λ v lo hi. refl))
+        (sym (honest-collected file (λ v. packets xors g other (ranked kept v)) (λ v lo hi. rw (kept-id v lo hi) (same v lo hi)))
+        ∙ honest-collected other (λ v. packets xors g other (ranked kept v)) (λ v lo hi. refl))

@@ -57,14 +57,14 @@ module _ (g : Group) (ids handed file : List ℕ) where
   still-several m n r p further (Compared.several a b _ _ la h hb wa wb) = Compared.several a b r p la h (omega arith) wa wb
 
   -- any file can be compared with all
-  pub record Told (ranks : ℕ) : Type 0 where
+  pub record Comparison (ranks : ℕ) : Type 0 where
     pub wrong : ℕ
     pub rank : ℕ
     pub place : ℕ
     pub told : Compared g ids handed file ranks wrong rank place
     pub few : wrong ≤ 2
 
-  wrong-next : (m q w r p : ℕ) → Compared g ids handed file m w r p → WrongAt (m + 1) q → Told (m + 1)
+  wrong-next : (m q w r p : ℕ) → Compared g ids handed file m w r p → WrongAt (m + 1) q → Comparison (m + 1)
   wrong-next m q w r p (Compared.nobody all) x = record { wrong = 1; rank = m + 1; place = q; told = first-wrong m q 0 0 (Compared.nobody all) x; few = omega arith }
   wrong-next m q w r p (Compared.one c s lo hi first rest) x =
       record { wrong = 2; rank = r; place = p; told = another-wrong m q r p (Compared.one c s lo hi first rest) x; few = omega arith }
@@ -72,12 +72,12 @@ module _ (g : Group) (ids handed file : List ℕ) where
       record { wrong = 2; rank = r; place = p; told = still-several m (m + 1) r p (omega arith) (Compared.several a b c s la h hb wa wb); few = omega arith }
 
   module _ (long : length handed ≡ lettersOf g ids (length ids)) where
-    pub compared-to : (m : ℕ) → m ≤ length ids → Told m
+    pub compared-to : (m : ℕ) → m ≤ length ids → Comparison m
     compared-to zero h = record { wrong = 0; rank = 0; place = 0; told = compared-none; few = omega arith }
     compared-to (suc m) h =
         let before = compared-to m (omega arith) in
         let one-more : m + 1 ≡ suc m = omega arith in
-        subst Told one-more
+        subst Comparison one-more
         (⊎-elim
         (λ fits. record { wrong = before .wrong; rank = before .rank; place = before .place; told = next-fits m (before .wrong) (before .rank) (before .place) (before .told) fits; few = before .few })
         (λ found. wrong-next m (found .0) (before .wrong) (before .rank) (before .place) (before .told) (found .1))

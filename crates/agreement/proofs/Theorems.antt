@@ -14,7 +14,7 @@ use Rattle.matrix.proofs.Theorems.{exactly-one-file}
 use Rattle.agreement.specs.Agreement.{lettersOf, handedBy, Shared, SharedWithout, AllAgree, OddAlone, SeveralWrong}
 use Rattle.agreement.specs.Steps.Trying.{keptRank, keptIds, collected, Tried, Compared}
 use Rattle.agreement.proofs.Choices.{Choice, passing, never-passed, choice-without, choice-without-two, kept-chosen, two-files}
-use Rattle.agreement.proofs.Comparing.{Told, compared-to}
+use Rattle.agreement.proofs.Comparing.{Comparison, compared-to}
 use Rattle.agreement.proofs.Trying.{without-any, all-fit, all-but-one-fit, Failed, all-failed}
 
 module _ (g : Group) (ids handed : List ℕ) (present : Chosen g (length ids) ids) (spare : g .k + 2 ≤ length ids) where
@@ -121,10 +121,10 @@ module _ (g : Group) (ids handed : List ℕ) (present : Chosen g (length ids) id
             inl (inl (try b .0, all-fit g ids handed present enough b (try b .0) 0 0 (try b .1) k))
         judged w r p (Compared.one c q lo hi first rest) k =
             let o = all-but-one-fit g ids handed present enough b (try b .0) r p (try b .1) k in
-            inl (inr (r, record { low = o .low; high = o .high; not-all = o .not-all; others = (try b .0, o .without) }))
+            inl (inr (r, o .odd))
         judged w r p (Compared.several a e _ _ la h he wa we) k = inr (record { tried = try b .0; rank = r; place = p; recovered = try b .1; two = k })
 
-        go : Told g ids handed (try b .0) (length ids) → Settled ⊎ Failed g ids handed present enough b
+        go : Comparison g ids handed (try b .0) (length ids) → Settled ⊎ Failed g ids handed present enough b
         go t = judged (t .wrong) (t .rank) (t .place) (t .told) (t .told)
 
     -- the first m tries

@@ -13,9 +13,9 @@ use Rattle.sequences.specs.Lists.{ranked}
 use Rattle.matrix.specs.Matrix.{packets}
 use Rattle.matrix.specs.Pieces.{Chosen}
 use Rattle.matrix.proofs.Theorems.{reading-once}
-use Rattle.agreement.specs.Agreement.{handedBy, FirstWrong, Shared, SharedWithout, AllAgree, SeveralWrong}
+use Rattle.agreement.specs.Agreement.{handedBy, FirstWrong, Shared, SharedWithout, OddAlone, SeveralWrong}
 use Rattle.agreement.specs.Steps.Trying.{keptRank, keptIds, Tried, Compared}
-use Rattle.agreement.proofs.Choices.{Choice, passing, never-passed, choice-without, kept-id, kept-chosen, collected-reading}
+use Rattle.agreement.proofs.Choices.{Choice, passing, never-passed, choice-without, kept-id, kept-chosen, honest-collected}
 use Rattle.agreement.proofs.FirstWrong.{wrong-differs}
 
 -- a file that all share is one that all share without any one
@@ -30,7 +30,7 @@ module _ (g : Group) (ids handed : List ℕ) (present : Chosen g (length ids) id
   tried-is-shared b c tried file t s away =
       reading-once bytes g (keptIds g ids (keptRank b)) (kept-chosen g ids present (keptRank b) choice) tried file (t .long) (s .long)
       (t .reads
-      ∙ collected-reading g ids present (keptRank b) choice file (λ v. handedBy g ids handed (keptRank b v))
+      ∙ honest-collected g ids present (keptRank b) choice file (λ v. handedBy g ids handed (keptRank b v))
       (λ v lo hi.
       ap (packets xors g file) (kept-id g ids present (keptRank b) choice v lo hi)
       ∙ s .gives (keptRank b v) (choice .low v lo hi) (choice .high v lo hi) (away v lo hi)))
@@ -51,22 +51,25 @@ module _ (g : Group) (ids handed : List ℕ) (present : Chosen g (length ids) id
   -- it fits all but one
   module _ (b : ℕ) (tried : List ℕ) (c p : ℕ) (t : Tried g ids handed b tried) where
     pub record OneWrong : Type 0 where
-      pub low : 1 ≤ c
-      pub high : c ≤ length ids
-      pub not-all : AllAgree g ids handed → ⊥
+      pub odd : OddAlone g ids handed c
       pub without : SharedWithout g ids handed c tried
       pub place : FirstWrong (handedBy g ids handed c) (packets xors g tried (ranked ids c)) p
 
     pub all-but-one-fit : Compared g ids handed tried (length ids) 1 c p → OneWrong
     all-but-one-fit (Compared.one _ _ lo hi first rest) =
+        let without : SharedWithout g ids handed c tried = record { long = t .long; gives = rest } in
         record {
-          low = lo;
-          high = hi;
-          not-all =
-              λ all.
-              wrong-differs (handedBy g ids handed c) (packets xors g tried (ranked ids c)) p first
-              (ap (λ file. packets xors g file (ranked ids c)) (tried-is-all b tried (all .0) t (all .1)) ∙ all .1 .gives c lo hi);
-          without = record { long = t .long; gives = rest };
+          odd =
+              record {
+                low = lo;
+                high = hi;
+                not-all =
+                    λ all.
+                    wrong-differs (handedBy g ids handed c) (packets xors g tried (ranked ids c)) p first
+                    (ap (λ file. packets xors g file (ranked ids c)) (tried-is-all b tried (all .0) t (all .1)) ∙ all .1 .gives c lo hi);
+                others = (tried, without);
+              };
+          without = without;
           place = first;
         }
 

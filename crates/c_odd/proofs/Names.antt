@@ -12,7 +12,7 @@ use Rattle.group.specs.Answers.{refusalNumber, unless}
 use Rattle.group.proofs.Refusals.{numbered, first-none, unless-none}
 use Rattle.odd_one.specs.declared.Report.{Report}
 use Rattle.odd_one.specs.Calls.{oddRefusal, Reports}
-use Rattle.c_odd.specs.Odd.{reportNumbers, toldRefusal, Told, Names}
+use Rattle.c_odd.specs.Odd.{reportNumbers, toldRefusal, Shown, Names}
 
 -- a call that isn't refused has a report of 32 numbers, and isn't refused by the call behind it
 module _ (g : Group) (ids : List ℕ) (packets file report : ℕ) (e : toldRefusal g ids packets file report ≡ 0) where
@@ -28,7 +28,7 @@ module _ (g : Group) (ids : List ℕ) (packets file report : ℕ) (e : toldRefus
 -- what it tells is what the call behind it reports
 pub told-of :
     (g : Group) (ids handed before after report : List ℕ) (r : Report) → oddRefusal g ids (length handed) (length before) ≡ 0
-    → Reports g ids handed before after r → report ≡ reportNumbers (r .nodes) → Told g ids handed after report
+    → Reports g ids handed before after r → report ≡ reportNumbers (r .nodes) → Shown g ids handed after report
 told-of g ids handed before after report r fine (Reports.refused q is number nodes kept) e = absurd (omega arith)
 told-of g ids handed before after report r fine (Reports.answered standing is number nodes tells) e =
     record { standing = standing; tells = tells; numbers = e ∙ ap reportNumbers nodes }
@@ -47,7 +47,7 @@ names-refused g ids handed before report refusal r e is = go (toldRefusal g ids 
 -- one that isn't refused
 names-told :
     (g : Group) (ids handed before after report report′ : List ℕ) (r : ℕ) → toldRefusal g ids (length handed) (length before) (length report) ≡ 0
-    → (r ≡ 0) × Told g ids handed after report′ → Names g ids handed before after report report′ r
+    → (r ≡ 0) × Shown g ids handed after report′ → Names g ids handed before after report report′ r
 names-told g ids handed before after report report′ r e w = Names.told e (w .0) (w .1)
 
 -- both for the group of the numbers that were handed in
@@ -60,5 +60,5 @@ module _ (g g′ : Group) (same : g ≡ g′) (ids handed before report : List �
 
   pub told-for :
       (after report′ : List ℕ) (r : ℕ) → toldRefusal g ids (length handed) (length before) (length report) ≡ 0
-      → (r ≡ 0) × Told g ids handed after report′ → Names g′ ids handed before after report report′ r
+      → (r ≡ 0) × Shown g ids handed after report′ → Names g′ ids handed before after report report′ r
   told-for after report′ r e w = subst (λ h. Names h ids handed before after report report′ r) same (names-told g ids handed before after report report′ r e w)

@@ -7,7 +7,7 @@ use lib.ListN.{length}
 use Rattle.group.specs.declared.Group.{Group}
 use Rattle.odd_one.specs.Calls.{nodesWhere}
 use Rattle.odd_one.proofs.Refusing.{present-here}
-use Rattle.odd_one.proofs.Outcomes.{tells-once}
+use Rattle.odd_one.proofs.Outcomes.{shows-once}
 use Rattle.c_odd.specs.Odd.{reportNumbers, Names}
 use Rattle.c_odd.proofs.Names.{behind-fine}
 
@@ -22,5 +22,5 @@ names-once g ids handed before after after′ report told told′ r r′ (Names.
     absurd (omega arith)
 names-once g ids handed before after after′ report told told′ r r′ (Names.told is number w) (Names.told is′ number′ w′) =
     let here = present-here g ids (length handed) (length before) (behind-fine g ids (length handed) (length before) (length report) is) handed refl in
-    let one = tells-once g ids handed here (w .standing) (w′ .standing) after after′ (w .tells) (w′ .tells) in
+    let one = shows-once g ids handed here (w .standing) (w′ .standing) after after′ (w .tells) (w′ .tells) in
     (one .1, w .numbers ∙ ap (λ s. reportNumbers (nodesWhere ids s)) (one .0) ∙ sym (w′ .numbers), number ∙ sym number′)

@@ -10,7 +10,7 @@ use Rattle.sequences.specs.Lists.{joined}
 use Rattle.odd_one.specs.declared.Standing.{Standing}
 use Rattle.odd_one.specs.declared.Standing.the-variants.{Absent, Agreeing, Unknown, Odd}
 use Rattle.odd_one.specs.declared.Node.{Node}
-use Rattle.odd_one.specs.Calls.{oddRefusal, nodesWhere, Tells}
+use Rattle.odd_one.specs.Calls.{oddRefusal, nodesWhere, Shows}
 
 -- a node's state: 0 absent, 1 agreeing, 2 unknown, 3 odd
 abbrev pub stateNumber : Standing → ℕ
@@ -40,9 +40,9 @@ unfoldable pub toldRefusal : Group → List ℕ → ℕ → ℕ → ℕ → ℕ
 toldRefusal g ids packets file report = first (oddRefusal g ids packets file) (unless (eqb report 32) 6)
 
 -- what isn't refused tells which of the three it is
-pub record Told (g : Group) (ids handed after report : List ℕ) : Type 0 where
+pub record Shown (g : Group) (ids handed after report : List ℕ) : Type 0 where
   pub standing : ℕ → Standing
-  pub tells : Tells g ids handed standing after
+  pub tells : Shows g ids handed standing after
   pub numbers : report ≡ reportNumbers (nodesWhere ids standing)
 
 -- a refused call returns its number and leaves both buffers as they were
@@ -51,5 +51,5 @@ pub data Names (g : Group) (ids handed before after report report′ : List ℕ)
       (q : ℕ) → toldRefusal g ids (length handed) (length before) (length report) ≡ suc q → r ≡ suc q → after ≡ before → report′ ≡ report
       → Names g ids handed before after report report′ r
   told :
-      toldRefusal g ids (length handed) (length before) (length report) ≡ 0 → r ≡ 0 → Told g ids handed after report′
+      toldRefusal g ids (length handed) (length before) (length report) ≡ 0 → r ≡ 0 → Shown g ids handed after report′
       → Names g ids handed before after report report′ r

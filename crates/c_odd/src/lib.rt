@@ -8,7 +8,7 @@ ghost use mathlib.Core.Path.{_≡_};
 ghost use lib.ListN.{length};
 ghost use Rattle.group.specs.Answers.{checkNumber};
 ghost use Rattle.group.specs.Ranges.{groupOf};
-ghost use Rattle.c_odd.specs.Odd.{stateNumber, placeNumber, reportNumbers, toldRefusal, Names, Told};
+ghost use Rattle.c_odd.specs.Odd.{stateNumber, placeNumber, reportNumbers, toldRefusal, Names, Shown};
 
 // A node's state: 0 absent, 1 agreeing, 2 unknown, 3 odd.
 fn state(node: Node) -> usize
@@ -63,7 +63,7 @@ fn check(g: Group, ids: &[usize], packets: usize, file: usize, report: usize) ->
 // The call where it isn't refused.
 fn tell(g: Group, ids: &[usize], packets: &[u8], file: &mut [u8], report: &mut [usize]) -> usize
     requires { ⌜ toldRefusal g (now ids) (length (now packets)) (length (now file)) (length (now report)) ≡ 0 ⌝ }
-    ensures { λ r. ⌜ (r ≡ 0) × (Told g (now (ids .entry)) (now (packets .entry)) (now (file .exit)) (now (report .exit))) ⌝ }
+    ensures { λ r. ⌜ (r ≡ 0) × (Shown g (now (ids .entry)) (now (packets .entry)) (now (file .exit)) (now (report .exit))) ⌝ }
 {
     let found = odd_one::find(g, ids, packets, file);
     let nodes = found.nodes;

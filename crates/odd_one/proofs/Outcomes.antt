@@ -16,28 +16,25 @@ use Rattle.agreement.proofs.Theorems.{only-file, only-file-without, no-second}
 use Rattle.trying.specs.Steps.Places.{Present}
 use Rattle.odd_one.specs.declared.Standing.{Standing}
 use Rattle.odd_one.specs.declared.Report.{Report}
-use Rattle.odd_one.specs.Calls.{nodesWhere, Tells, Reports, oddAt}
+use Rattle.odd_one.specs.Calls.{nodesWhere, Shows, Reports, oddAt}
 use Rattle.odd_one.proofs.Refusing.{present-here}
 
 module _ (g : Group) (ids handed : List ℕ) (here : Present g ids handed) where
   -- all nodes stand as they do, and the buffer holds what it does
-  pub tells-once :
-      (s s′ : ℕ → Standing) (file file′ : List ℕ) → Tells g ids handed s file → Tells g ids handed s′ file′ → (s ≡ s′) × (file ≡ file′)
-  tells-once s s′ file file′ (Tells.agree _ shared) (Tells.agree _ shared′) =
+  pub shows-once :
+      (s s′ : ℕ → Standing) (file file′ : List ℕ) → Shows g ids handed s file → Shows g ids handed s′ file′ → (s ≡ s′) × (file ≡ file′)
+  shows-once s s′ file file′ (Shows.agree _ shared) (Shows.agree _ shared′) =
       (refl, only-file g ids handed (here .chosen) (here .spare) file file′ shared shared′)
-  tells-once s s′ file file′ (Tells.agree _ shared) (Tells.odd b place _ lo hi not-all without first) = absurd (not-all (file, shared))
-  tells-once s s′ file file′ (Tells.agree _ shared) (Tells.several several) = absurd (several .not-all (file, shared))
-  tells-once s s′ file file′ (Tells.odd b place _ lo hi not-all without first) (Tells.agree _ shared) = absurd (not-all (file′, shared))
-  tells-once s s′ file file′ (Tells.odd b place _ lo hi not-all without first) (Tells.odd c place′ _ lo′ hi′ not-all′ without′ first′) = (
+  shows-once s s′ file file′ (Shows.agree _ shared) (Shows.odd b place _ alone without first) = absurd (alone .not-all (file, shared))
+  shows-once s s′ file file′ (Shows.agree _ shared) (Shows.several several) = absurd (several .not-all (file, shared))
+  shows-once s s′ file file′ (Shows.odd b place _ alone without first) (Shows.agree _ shared) = absurd (alone .not-all (file′, shared))
+  shows-once s s′ file file′ (Shows.odd b place _ alone without first) (Shows.odd c place′ _ alone′ without′ first′) = (
     ap₂ {C = ℕ → Standing} (oddAt ids) same one,
     alike,
   )
     where
       same : b ≡ c
-      same =
-          no-second g ids handed (here .chosen) (here .spare) b c
-          (record { low = lo; high = hi; not-all = not-all; others = (file, without) })
-          (record { low = lo′; high = hi′; not-all = not-all′; others = (file′, without′) })
+      same = no-second g ids handed (here .chosen) (here .spare) b c alone alone′
 
       alike : file ≡ file′
       alike =
@@ -49,12 +46,12 @@ module _ (g : Group) (ids handed : List ℕ) (here : Present g ids handed) where
           one-place (handedBy g ids handed b) (packets xors g file (ranked ids b)) place place′ first
           (subst (λ f. FirstWrong (handedBy g ids handed b) (packets xors g f (ranked ids b)) place′) (sym alike)
           (subst (λ x. FirstWrong (handedBy g ids handed x) (packets xors g file′ (ranked ids x)) place′) (sym same) first′))
-  tells-once s s′ file file′ (Tells.odd b place _ lo hi not-all without first) (Tells.several several) =
-      absurd (several .not-one b (record { low = lo; high = hi; not-all = not-all; others = (file, without) }))
-  tells-once s s′ file file′ (Tells.several several) (Tells.agree _ shared) = absurd (several .not-all (file′, shared))
-  tells-once s s′ file file′ (Tells.several several) (Tells.odd b place _ lo hi not-all without first) =
-      absurd (several .not-one b (record { low = lo; high = hi; not-all = not-all; others = (file′, without) }))
-  tells-once s s′ file file′ (Tells.several several) (Tells.several several′) = (refl, refl)
+  shows-once s s′ file file′ (Shows.odd b place _ alone without first) (Shows.several several) =
+      absurd (several .not-one b alone)
+  shows-once s s′ file file′ (Shows.several several) (Shows.agree _ shared) = absurd (several .not-all (file′, shared))
+  shows-once s s′ file file′ (Shows.several several) (Shows.odd b place _ alone without first) =
+      absurd (several .not-one b alone)
+  shows-once s s′ file file′ (Shows.several several) (Shows.several several′) = (refl, refl)
 
 -- one report
 same-report : (r r′ : Report) → checkNumber (r .check) ≡ checkNumber (r′ .check) → r .nodes ≡ r′ .nodes → r ≡ r′
@@ -70,5 +67,5 @@ reports-once g ids handed before after after′ r r′ (Reports.refused q is num
 reports-once g ids handed before after after′ r r′ (Reports.answered s is number nodes tells) (Reports.refused q′ is′ number′ nodes′ kept′) =
     absurd (omega arith)
 reports-once g ids handed before after after′ r r′ (Reports.answered s is number nodes tells) (Reports.answered s′ is′ number′ nodes′ tells′) =
-    let w = tells-once g ids handed (present-here g ids (length handed) (length before) is handed refl) s s′ after after′ tells tells′ in
+    let w = shows-once g ids handed (present-here g ids (length handed) (length before) is handed refl) s s′ after after′ tells tells′ in
     (w .1, same-report r r′ (number ∙ sym number′) (nodes ∙ ap (nodesWhere ids) (w .0) ∙ sym nodes′))

@@ -22,9 +22,9 @@ use Rattle.trying.specs.Steps.Places.{Present}
 use Rattle.odd_one.specs.declared.Standing.{Standing}
 use Rattle.odd_one.specs.declared.Standing.the-variants.{Agreeing}
 use Rattle.odd_one.specs.declared.Report.{Report}
-use Rattle.odd_one.specs.Calls.{oddRefusal, nodesWhere, Tells, Reports, oddAt}
+use Rattle.odd_one.specs.Calls.{oddRefusal, nodesWhere, Shows, Reports, oddAt}
 use Rattle.odd_one.proofs.Refusing.{present-here}
-use Rattle.odd_one.proofs.Outcomes.{tells-once}
+use Rattle.odd_one.proofs.Outcomes.{shows-once}
 
 module _ (g : Group) (ids handed before after : List ℕ) (r : Report) (fine : oddRefusal g ids (length handed) (length before) ≡ 0)
     (call : Reports g ids handed before after r) where
@@ -32,18 +32,18 @@ module _ (g : Group) (ids handed before after : List ℕ) (r : Report) (fine : o
   here = present-here g ids (length handed) (length before) fine handed refl
 
   -- what a call that isn't refused tells is what is so
-  told : (s : ℕ → Standing) (file : List ℕ) → Tells g ids handed s file → (after ≡ file) × (r .nodes ≡ nodesWhere ids s)
+  told : (s : ℕ → Standing) (file : List ℕ) → Shows g ids handed s file → (after ≡ file) × (r .nodes ≡ nodesWhere ids s)
   told s file tells = go call
     where
       go : Reports g ids handed before after r → (after ≡ file) × (r .nodes ≡ nodesWhere ids s)
       go (Reports.refused q is number nodes kept) = absurd (omega arith)
       go (Reports.answered s′ is number nodes tells′) =
-          let w = tells-once g ids handed here s′ s after file tells′ tells in
+          let w = shows-once g ids handed here s′ s after file tells′ tells in
           (w .1, nodes ∙ ap (nodesWhere ids) (w .0))
 
   -- nodes that all hold the packets of a file agree, and the buffer then holds it
   pub honest-agree : (file : List ℕ) → Shared g ids handed file → (after ≡ file) × (r .nodes ≡ nodesWhere ids (λ i. Agreeing))
-  honest-agree file shared = told (λ i. Agreeing) file (Tells.agree file shared)
+  honest-agree file shared = told (λ i. Agreeing) file (Shows.agree file shared)
 
   -- where all but one do, and that one holds anything else, it alone is odd, at its first wrong letter, and the buffer holds the file
   pub liar-named :
@@ -55,7 +55,7 @@ module _ (g : Group) (ids handed before after : List ℕ) (r : Report) (fine : o
   liar-named file b lo hi without lies =
       ⊎-elim (λ same. absurd (lies same))
       (λ found.
-      let w = told (oddAt ids b (found .0)) file (Tells.odd b (found .0) file lo hi not-all without (found .1)) in
+      let w = told (oddAt ids b (found .0)) file (Shows.odd b (found .0) file (record { low = lo; high = hi; not-all = not-all; others = (file, without) }) without (found .1)) in
       (w .0, (found .0, found .1, w .1)))
       (compare (handedBy g ids handed b) (packets xors g file (ranked ids b))
       (length-handed g ids handed (here .long) b lo hi ∙ sym (length-packets xors g file (ranked ids b))))

@@ -1,7 +1,7 @@
 -- How nodes stand, by how many are wrong; and the sixteen entries, one after another.
 use native.Mathlib.Omega.{arith}
 use mathlib.Core.Path.{_≡_, refl, sym, ap, _∙_}
-use mathlib.Core.Bool.{true, false, cond}
+use mathlib.Core.Bool.{true, false}
 use mathlib.Core.List.{List, []}
 use mathlib.Core.Logic.{⊎-elim}
 use Prim.Native.Nat.{ℕ, _+_, _-_, _≤_, _<_}
@@ -16,8 +16,8 @@ use Rattle.trying.specs.declared.Found.{Found}
 use Rattle.odd_one.specs.declared.Standing.{Standing}
 use Rattle.odd_one.specs.declared.Standing.the-variants.{Absent, Agreeing, Unknown, Odd}
 use Rattle.odd_one.specs.declared.Node.{Node}
-use Rattle.odd_one.specs.Calls.{nodesWhere, allAbsent}
-use Rattle.odd_one.specs.Steps.Standings.{standingBy, standingIn, oddId}
+use Rattle.odd_one.specs.Calls.{standingIn, nodesWhere, allAbsent}
+use Rattle.odd_one.specs.Steps.Standings.{standingBy, oddId}
 
 -- an entry
 abbrev pub entry : Standing → Node
@@ -54,8 +54,8 @@ module _ (ids : List ℕ) (standing : ℕ → Standing) (i : ℕ) where
 pub are-nodes :
     (ids : List ℕ) (standing : ℕ → Standing) (nodes : List Node) → length nodes ≡ 16
     → ((q : ℕ) → q < 16 → getD nodes q (entry Absent) ≡ entry (standingIn ids standing (q + 1))) → nodes ≡ nodesWhere ids standing
-unfolding nodesWhere standingIn
-are-nodes ids standing nodes long each = is-run (entry Absent) 16 (λ i. entry (cond (among i ids) (standing i) Absent)) nodes long each
+unfolding nodesWhere
+are-nodes ids standing nodes long each = is-run (entry Absent) 16 (λ i. entry (standingIn ids standing i)) nodes long each
 
 -- the id of the odd one
 pub odd-named : (ids : List ℕ) (found : Found) → found .wrong ≡ 1 → oddId ids found ≡ ranked ids (found .rank)
@@ -68,7 +68,7 @@ odd-none ids found ne = simp (ne-eqb (found .wrong) 1 ne) refl
 
 pub length-absent : length allAbsent ≡ 16
 unfolding nodesWhere
-length-absent = length-run 16 (λ i. entry (cond (among i []) Absent Absent))
+length-absent = length-run 16 (λ i. entry (standingIn [] (λ i. Absent) i))
 
 -- one entry more
 pub one-more :

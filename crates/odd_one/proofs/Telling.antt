@@ -21,7 +21,7 @@ use Rattle.trying.specs.Searched.{Searched}
 use Rattle.odd_one.specs.declared.Standing.{Standing}
 use Rattle.odd_one.specs.declared.Standing.the-variants.{Agreeing, Unknown}
 use Rattle.odd_one.specs.declared.Report.{Report}
-use Rattle.odd_one.specs.Calls.{oddRefusal, nodesWhere, allAbsent, zeroFile, Tells, Reports, oddAt}
+use Rattle.odd_one.specs.Calls.{oddRefusal, nodesWhere, allAbsent, zeroFile, Shows, Reports, oddAt}
 use Rattle.odd_one.specs.Steps.Standings.{standingBy, oddId, Named}
 use Rattle.odd_one.proofs.Standings.{by-several, by-none, by-odd, by-other, odd-named}
 
@@ -45,7 +45,7 @@ named g ids handed file found s =
   where
     one : (w c p : ℕ) → w ≡ 1 → Searched g ids handed file w c p → (1 ≤ c) × (c ≤ length ids)
     one w c p e (Searched.agree _ _ shared) = absurd (omega arith)
-    one w c p e (Searched.odd _ _ lo hi not-all without first) = (lo, hi)
+    one w c p e (Searched.odd _ _ alone without first) = (alone .low, alone .high)
     one w c p e (Searched.several _ _ several) = absurd (omega arith)
 
 -- a buffer that was cleared is a file of zeros
@@ -56,17 +56,17 @@ cleared g before after end long e laid =
 
 module _ (g : Group) (ids handed : List ℕ) where
   -- two standings that are the same for every node
-  tells-as :
-      (s s′ : ℕ → Standing) (file : List ℕ) → ((i : ℕ) → s i ≡ s′ i) → Tells g ids handed s file → Tells g ids handed s′ file
-  tells-as s s′ file e t = subst (λ f. Tells g ids handed f file) (fun-ext e) t
+  shows-as :
+      (s s′ : ℕ → Standing) (file : List ℕ) → ((i : ℕ) → s i ≡ s′ i) → Shows g ids handed s file → Shows g ids handed s′ file
+  shows-as s s′ file e t = subst (λ f. Shows g ids handed f file) (fun-ext e) t
 
   settled :
       (w c p : ℕ) (file : List ℕ) (odd : ℕ) → w < 2 → (w ≡ 1 → odd ≡ ranked ids c) → Searched g ids handed file w c p
-      → Tells g ids handed (standingBy w odd p) file
+      → Shows g ids handed (standingBy w odd p) file
   settled w c p file odd few named (Searched.agree _ _ shared) =
-      tells-as (λ i. Agreeing) (standingBy 0 odd p) file (λ i. sym (by-none 0 odd p i refl)) (Tells.agree file shared)
-  settled w c p file odd few named (Searched.odd _ _ lo hi not-all without first) =
-      tells-as (oddAt ids c p) (standingBy 1 odd p) file
+      shows-as (λ i. Agreeing) (standingBy 0 odd p) file (λ i. sym (by-none 0 odd p i refl)) (Shows.agree file shared)
+  settled w c p file odd few named (Searched.odd _ _ alone without first) =
+      shows-as (oddAt ids c p) (standingBy 1 odd p) file
       (λ i.
       ⊎-elim
       (λ e.
@@ -74,15 +74,15 @@ module _ (g : Group) (ids handed : List ℕ) where
       (λ ne.
       simp (ne-eqb i (ranked ids c) ne) (sym (by-other 1 odd p i (omega arith) (λ z. omega arith) (λ e. ne (e ∙ named refl)))))
       (eq-or-ne i (ranked ids c)))
-      (Tells.odd c p file lo hi not-all without first)
+      (Shows.odd c p file alone without first)
   settled w c p file odd few named (Searched.several _ _ several) = absurd (omega arith)
 
   unsettled :
-      (w c p : ℕ) (file : List ℕ) (odd : ℕ) → 2 ≤ w → Searched g ids handed file w c p → Tells g ids handed (standingBy w odd p) (zeroFile g)
+      (w c p : ℕ) (file : List ℕ) (odd : ℕ) → 2 ≤ w → Searched g ids handed file w c p → Shows g ids handed (standingBy w odd p) (zeroFile g)
   unsettled w c p file odd more (Searched.agree _ _ shared) = absurd (omega arith)
-  unsettled w c p file odd more (Searched.odd _ _ lo hi not-all without first) = absurd (omega arith)
+  unsettled w c p file odd more (Searched.odd _ _ alone without first) = absurd (omega arith)
   unsettled w c p file odd more (Searched.several _ _ several) =
-      tells-as (λ i. Unknown) (standingBy 2 odd p) (zeroFile g) (λ i. sym (by-several 2 odd p i (omega arith))) (Tells.several several)
+      shows-as (λ i. Unknown) (standingBy 2 odd p) (zeroFile g) (λ i. sym (by-several 2 odd p i (omega arith))) (Shows.several several)
 
   -- a call that isn't refused
   module _ (before : List ℕ) (fine : oddRefusal g ids (length handed) (length before) ≡ 0) (found : Found) (r : Report)
@@ -98,5 +98,5 @@ module _ (g : Group) (ids handed : List ℕ) where
         → Reports g ids handed before after r
     unsettled-reports file after more s zeros =
         Reports.answered (standingBy (found .wrong) (oddId ids found) (found .place)) fine (ap checkNumber (w .0)) (w .1)
-        (subst (Tells g ids handed (standingBy (found .wrong) (oddId ids found) (found .place))) (sym zeros)
+        (subst (Shows g ids handed (standingBy (found .wrong) (oddId ids found) (found .place))) (sym zeros)
         (unsettled (found .wrong) (found .rank) (found .place) file (oddId ids found) more s))

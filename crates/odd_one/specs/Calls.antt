@@ -2,7 +2,7 @@
 use mathlib.Core.Path.{_≡_}
 use mathlib.Core.Bool.{cond}
 use mathlib.Core.List.{List, []}
-use Prim.Native.Nat.{ℕ, suc, _+_, _≤_}
+use Prim.Native.Nat.{ℕ, suc, _+_}
 use lib.Dec.{eqb, leb}
 use lib.ListN.{length}
 use Rattle.letters.specs.Algebra.{xors}
@@ -13,7 +13,7 @@ use Rattle.ids.specs.Ids.{allInRange, falling, among}
 use Rattle.lengths.specs.Lengths.{fileLetters}
 use Rattle.sequences.specs.Lists.{run, ranked}
 use Rattle.matrix.specs.Matrix.{packets}
-use Rattle.agreement.specs.Agreement.{lettersOf, handedBy, FirstWrong, Shared, SharedWithout, AllAgree, SeveralWrong}
+use Rattle.agreement.specs.Agreement.{lettersOf, handedBy, FirstWrong, Shared, SharedWithout, OddAlone, SeveralWrong}
 use Rattle.odd_one.specs.declared.Standing.{Standing}
 use Rattle.odd_one.specs.declared.Standing.the-variants.{Absent, Agreeing, Unknown, Odd}
 use Rattle.odd_one.specs.declared.Node.{Node}
@@ -34,10 +34,15 @@ unfoldable pub oddRefusal : Group → List ℕ → ℕ → ℕ → ℕ
 unfolding presentRefusal lengthsRefusal
 oddRefusal g ids packets file = first (presentRefusal g ids) (lengthsRefusal g ids packets file)
 
--- the sixteen entries, where node i stands so if it is among the ids, and else is absent
+-- node i stands so if it is among the ids, and else is absent
+unfoldable pub standingIn : List ℕ → (ℕ → Standing) → ℕ → Standing
+unfolding among
+standingIn ids standing i = cond (among i ids) (standing i) Absent
+
+-- the sixteen entries
 unfoldable pub nodesWhere : List ℕ → (ℕ → Standing) → List Node
-unfolding run among
-nodesWhere ids standing = run 16 (λ i. record { standing = cond (among i ids) (standing i) Absent })
+unfolding run standingIn
+nodesWhere ids standing = run 16 (λ i. record { standing = standingIn ids standing i })
 
 -- all are absent
 abbrev pub allAbsent : List Node
@@ -53,13 +58,13 @@ unfolding run
 zeroFile g = run (fileLetters g) (λ p. 0)
 
 -- How each present node stands, and what the buffer holds: which of three it is, all agree, one alone is odd, or more than one is wrong.
-pub data Tells (g : Group) (ids handed : List ℕ) : (ℕ → Standing) → List ℕ → Type 0 where
-  agree : (file : List ℕ) → Shared g ids handed file → Tells g ids handed (λ i. Agreeing) file
+pub data Shows (g : Group) (ids handed : List ℕ) : (ℕ → Standing) → List ℕ → Type 0 where
+  agree : (file : List ℕ) → Shared g ids handed file → Shows g ids handed (λ i. Agreeing) file
   odd :
-      (b place : ℕ) (file : List ℕ) → 1 ≤ b → b ≤ length ids → (AllAgree g ids handed → ⊥) → SharedWithout g ids handed b file
+      (b place : ℕ) (file : List ℕ) → OddAlone g ids handed b → SharedWithout g ids handed b file
       → FirstWrong (handedBy g ids handed b) (packets xors g file (ranked ids b)) place
-      → Tells g ids handed (oddAt ids b place) file
-  several : SeveralWrong g ids handed → Tells g ids handed (λ i. Unknown) (zeroFile g)
+      → Shows g ids handed (oddAt ids b place) file
+  several : SeveralWrong g ids handed → Shows g ids handed (λ i. Unknown) (zeroFile g)
 
 -- A refused call answers its number, all nodes are absent and the buffer is as it was; else the entries and the buffer tell which of the three it is.
 pub data Reports (g : Group) (ids handed before after : List ℕ) (r : Report) : Type 0 where
@@ -68,4 +73,4 @@ pub data Reports (g : Group) (ids handed before after : List ℕ) (r : Report) :
       → Reports g ids handed before after r
   answered :
       (standing : ℕ → Standing) → oddRefusal g ids (length handed) (length before) ≡ 0 → checkNumber (r .check) ≡ 0 → r .nodes ≡ nodesWhere ids standing
-      → Tells g ids handed standing after → Reports g ids handed before after r
+      → Shows g ids handed standing after → Reports g ids handed before after r

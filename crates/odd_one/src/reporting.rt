@@ -7,8 +7,8 @@ use group::Refusal;
 use trying::Found;
 ghost use mathlib.Core.Path.{_≡_};
 ghost use Rattle.group.specs.declared.Check.the-variants.{Fine, Refused};
-ghost use Rattle.odd_one.specs.Calls.{nodesWhere, allAbsent};
-ghost use Rattle.odd_one.specs.Steps.Standings.{standingBy, standingIn, oddId, Named};
+ghost use Rattle.odd_one.specs.Calls.{standingIn, nodesWhere, allAbsent};
+ghost use Rattle.odd_one.specs.Steps.Standings.{standingBy, oddId, Named};
 
 // No node is present.
 fn absent() -> [Node; 16]

@@ -23,7 +23,7 @@ module _ (g : Group) (ids handed : List ℕ) (here : Present g ids handed) where
   settles b file zero c p few t k = Searched.agree c p (all-fit g ids handed (here .chosen) enough b file c p t k)
   settles b file (suc zero) c p few t k =
       let o = all-but-one-fit g ids handed (here .chosen) enough b file c p t k in
-      Searched.odd c p (o .low) (o .high) (o .not-all) (o .without) (o .place)
+      Searched.odd c p (o .odd) (o .without) (o .place)
   settles b file (suc (suc w)) c p few t k = absurd (omega arith)
 
   -- the tries without the ranks after b all failed

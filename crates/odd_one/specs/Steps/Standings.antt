@@ -5,20 +5,14 @@ use mathlib.Core.List.{List}
 use Prim.Native.Nat.{ℕ, _≤_}
 use lib.Dec.{eqb, leb}
 use lib.ListN.{length}
-use Rattle.ids.specs.Ids.{among}
 use Rattle.sequences.specs.Lists.{ranked}
 use Rattle.trying.specs.declared.Found.{Found}
 use Rattle.odd_one.specs.declared.Standing.{Standing}
-use Rattle.odd_one.specs.declared.Standing.the-variants.{Absent, Agreeing, Unknown, Odd}
+use Rattle.odd_one.specs.declared.Standing.the-variants.{Agreeing, Unknown, Odd}
 
 -- a node that is present
 unfoldable pub standingBy : ℕ → ℕ → ℕ → ℕ → Standing
 standingBy wrong odd place i = cond (leb 2 wrong) Unknown (cond (eqb wrong 0) Agreeing (cond (eqb i odd) (Odd place) Agreeing))
-
--- any node
-unfoldable pub standingIn : List ℕ → (ℕ → Standing) → ℕ → Standing
-unfolding among
-standingIn ids standing i = cond (among i ids) (standing i) Absent
 
 -- where one is wrong, its rank is one of the ids'
 pub record Named (ids : List ℕ) (found : Found) : Type 0 where

@@ -4,7 +4,8 @@ use mathlib.Core.Path.{_≡_, ap, _∙_}
 use Prim.Native.Nat.{ℕ, _+_, _-_, _≤_, _<_}
 use lib.ListN.{length, getD, length-set}
 use Rattle.odd_one.specs.declared.Standing.the-variants.{Absent}
-use Rattle.odd_one.specs.Steps.Standings.{standingBy, standingIn}
+use Rattle.odd_one.specs.Calls.{standingIn}
+use Rattle.odd_one.specs.Steps.Standings.{standingBy}
 use Rattle.odd_one.proofs.Standings.{entry, are-nodes, length-absent, one-more}
 use borrow.Author.Needs.{needs}
 use Rattle.odd_one.proofs.reporting.nodes.Statement.{statement}
