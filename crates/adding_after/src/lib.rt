@@ -1,4 +1,6 @@
 // Run addition within one buffer, into later letters: they may overlap those that are added.
+#![tactic(auto)]
+
 mod blocks;
 
 ghost use Rattle.std.specs.Prelude.{◌+◌, ◌≤◌, length};

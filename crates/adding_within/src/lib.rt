@@ -1,4 +1,6 @@
 // Run addition within one buffer: letters of it added into earlier ones.
+#![tactic(auto)]
+
 pub mod blocks;
 
 ghost use Rattle.std.specs.Prelude.{◌≡◌, ◌+◌, ◌≤◌, length, take, drop};

@@ -1,4 +1,6 @@
 // Every line of a script, whichever call it names (docs/SCRIPTS.md).
+#![tactic(auto)]
+
 use arriving::Arriving;
 use script_line::Line;
 

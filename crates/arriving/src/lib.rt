@@ -1,5 +1,7 @@
 // A share that is judged while it arrives: a small state takes bytes as they come, however they are cut, and tells at any moment what all
 // bytes so far are. It keeps no letters.
+#![tactic(auto)]
+
 pub mod bursts;
 
 ghost use Rattle.std.specs.Prelude.{◌≡◌, true, [], ◌↔◌, ◌^◌, ◌<◌};
@@ -20,7 +22,7 @@ use records::sizes;
 const LAST_BATCH: usize = 4294967295;
 
 // The state. It is a function of all bytes so far, `state_of` in specs/, and of nothing else.
-#[derive(Drop)]
+#[derive(Clone, Copy)]
 pub struct Arriving {
     // How many bytes can stand so far. Once one couldn't, this is its index, and nothing is counted on.
     pub at: usize,
@@ -37,7 +39,7 @@ pub struct Arriving {
 }
 
 // The share that is coming, as far as its head tells.
-#[derive(Drop)]
+#[derive(Clone, Copy)]
 pub enum Coming {
     // Its head, and how many bytes it will have.
     Share(Head, usize),

@@ -1,4 +1,6 @@
 // What a line of a script does with the state of the reader of bursts, by its number (docs/SCRIPTS.md).
+#![tactic(auto)]
+
 mod sweeps;
 
 use arriving::Arriving;

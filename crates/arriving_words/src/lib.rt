@@ -1,4 +1,6 @@
 // The reader of bursts for its test program: bytes handed over in bursts, the words of its state, and what is written of it.
+#![tactic(auto)]
+
 pub mod bursts;
 mod telling;
 mod words;

@@ -1,4 +1,6 @@
 // Run addition with its report, and counting alone, for bench/run; they stand apart from `bench_runs`, so that run addition alone is compiled as it is for calls that answer no count.
+#![tactic(auto)]
+
 ghost use Rattle.std.specs.Prelude.{◌≡◌, ◌+◌, ◌≤◌, length, take, drop};
 ghost use Rattle.letters.specs.Algebra.{xors};
 ghost use Rattle.letters.specs.Runs.{added};

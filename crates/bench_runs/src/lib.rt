@@ -1,5 +1,7 @@
 // Run addition for bench/run, which counts it alone. It is no part of the library for C: nobody tests what `requires` says, which the library's own calls
 // have proved before they add a run, so it costs what run addition costs them and no more.
+#![tactic(auto)]
+
 ghost use Rattle.std.specs.Prelude.{◌≡◌, ◌+◌, ◌≤◌, length, take, drop};
 ghost use Rattle.letters.specs.Algebra.{xors};
 ghost use Rattle.letters.specs.Runs.{added};

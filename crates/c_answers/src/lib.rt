@@ -1,4 +1,6 @@
 // Answers as C has them: a number returned, and the value in a lent number.
+#![tactic(auto)]
+
 ghost use Rattle.std.specs.Prelude.{◌≡◌};
 ghost use Rattle.group.specs.Answers.{number_of, value_of, if_fine};
 

@@ -1,5 +1,7 @@
 // A share that arrives, for C: the state of no bytes, bytes taken into a state, and what is told from it: the judgment of all bytes so far, how many can stand, and the
 // share that is coming. (In one crate, since the compiler lays out bytes that come one by one better where what they call has several callers.)
+#![tactic(auto)]
+
 ghost use Rattle.arriving.specs.Calls.{coming_of};
 ghost use Rattle.c_arriving.specs.Arrivals.{StartsWords, TakesWords};
 ghost use Rattle.c_arriving.specs.SoFar.{JudgesWords, CountsWords, TellsComing, AnnouncesWords};

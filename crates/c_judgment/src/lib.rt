@@ -1,4 +1,6 @@
 // How a head and a judgment are told: seven numbers, and the number of what the bytes are.
+#![tactic(auto)]
+
 ghost use Rattle.std.specs.Prelude.{◌≡◌, length};
 ghost use Rattle.judging.specs.Judging.{outcome_of};
 ghost use Rattle.c_judgment.specs.Judgments.{seven, TellsJudgment};

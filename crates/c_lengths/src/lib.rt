@@ -1,4 +1,6 @@
 // The lengths that a caller has to lend: of a file, of what a node holds, of what a helper sends.
+#![tactic(auto)]
+
 ghost use Rattle.group.specs.Ranges.{group_refusal, node_refusal};
 ghost use Rattle.lengths.specs.Lengths.{file_letters, node_letters, repair_letters};
 ghost use Rattle.group.specs.Ranges.{group_of};

@@ -1,4 +1,6 @@
 // Which node is lying, for C.
+#![tactic(auto)]
+
 ghost use Rattle.std.specs.Prelude.{◌≡◌, length};
 ghost use Rattle.group.specs.Answers.{check_number};
 ghost use Rattle.group.specs.Ranges.{group_of};

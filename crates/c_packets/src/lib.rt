@@ -1,4 +1,6 @@
 // What a node makes: its packets from the file, and its piece for a lost node.
+#![tactic(auto)]
+
 ghost use Rattle.std.specs.Prelude.{length};
 ghost use Rattle.letters.specs.Algebra.{xors};
 ghost use Rattle.nodes.specs.Calls.{encode_refusal};

@@ -1,4 +1,6 @@
 // Where the pieces for a recovery start in what a node holds, and where the collector puts them.
+#![tactic(auto)]
+
 ghost use Rattle.std.specs.Prelude.{◌+◌, ◌-◌, ◌*◌, length};
 ghost use Rattle.shifts.specs.Rule.{t};
 ghost use Rattle.lengths.specs.Lengths.{packet_start};

@@ -1,2 +1,3 @@
 -- The promise about the exported encoding of previews.
+pub mod Told
 pub mod Promises

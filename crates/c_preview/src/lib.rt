@@ -1,5 +1,7 @@
 // What a node of previews holds: its packet from the file, and that packet as a share. A group of previews has no d, so its d is 0.
 // (Writing stands here and not beside the base's: an archive of one call that writes has it laid in, with its kind as a constant.)
+#![tactic(auto)]
+
 ghost use Rattle.std.specs.Prelude.{length};
 ghost use Rattle.letters.specs.Algebra.{xors};
 ghost use Rattle.group.specs.Ranges.{group_of};

@@ -1,4 +1,6 @@
 // The letters of a file of previews and of a packet. A group of previews has no d, so its d is 0.
+#![tactic(auto)]
+
 ghost use Rattle.group.specs.Ranges.{group_of};
 ghost use Rattle.preview_numbers.specs.Previews.{preview_group_refusal, preview_node_refusal, preview_file, preview_packet};
 ghost use Rattle.c_answers.specs.Exports.{Tells};

@@ -1,4 +1,6 @@
 // Where the pieces of previews start in what a node holds, and where the collector puts them. A group of previews has no d, so its d is 0.
+#![tactic(auto)]
+
 ghost use Rattle.std.specs.Prelude.{◌-◌, ◌*◌, length};
 ghost use Rattle.shifts.specs.Rule.{preview_shift};
 ghost use Rattle.group.specs.Ranges.{group_of};

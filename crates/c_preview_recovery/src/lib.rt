@@ -1,4 +1,6 @@
 // A file of previews from the pieces of k nodes, in place. A group of previews has no d, so its d is 0.
+#![tactic(auto)]
+
 ghost use Rattle.group.specs.Ranges.{group_of};
 ghost use Rattle.c_preview_recovery.specs.Previews.{PreviewRecovers};
 

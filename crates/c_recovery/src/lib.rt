@@ -1,4 +1,6 @@
 // Recovery and repair, in place.
+#![tactic(auto)]
+
 ghost use Rattle.group.specs.Ranges.{group_of};
 ghost use Rattle.c_recovery.specs.Recovery.{Recovers, Repairs};
 

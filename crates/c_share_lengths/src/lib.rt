@@ -1,4 +1,6 @@
 // The bytes of a node's share, and of its share of previews.
+#![tactic(auto)]
+
 ghost use Rattle.group.specs.Ranges.{node_refusal};
 ghost use Rattle.preview_numbers.specs.Previews.{preview_node_refusal};
 ghost use Rattle.share.specs.Calls.{share_bytes, preview_bytes};

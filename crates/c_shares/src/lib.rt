@@ -1,4 +1,6 @@
 // Shares: written, read and judged.
+#![tactic(auto)]
+
 ghost use Rattle.std.specs.Prelude.{length};
 ghost use Rattle.share.specs.Calls.{write_refusal, head_for};
 ghost use Rattle.heads.specs.Heads.{heads};

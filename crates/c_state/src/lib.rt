@@ -1,4 +1,6 @@
 // The state of a share that arrives, as C has it: an array of nine numbers that the caller owns, and any numbers may stand in it.
+#![tactic(auto)]
+
 ghost use Rattle.std.specs.Prelude.{◌≡◌, length};
 ghost use Rattle.c_state.specs.Words.{state_in, nine};
 

@@ -1,5 +1,7 @@
 // The store's calls by their numbers in a script (docs/SCRIPTS.md), for the test programs. The numbers of a line after its two slices are the group's,
 // [n,k,d] and L, and then the call's own; ids come last.
+#![tactic(auto)]
+
 use group::{Answer, Group};
 use script_line::Line;
 use share::Judgment;

@@ -1,4 +1,6 @@
 // What the later columns, solved already, put into an entry, taken out of it in one pass behind the place that the last of them is moved to.
+#![tactic(auto)]
+
 ghost use Rattle.std.specs.Prelude.{◌≡◌, ◌-◌, ◌≤◌, length};
 ghost use Rattle.lengths.specs.Lengths.{file_letters};
 ghost use Rattle.column_runs.specs.Steps.Runs.{moved_by, from_next, Entry, Grown};

@@ -1,4 +1,6 @@
 // What the later columns, solved already, put into an entry, taken out of it run by run.
+#![tactic(auto)]
+
 ghost use Rattle.std.specs.Prelude.{◌≡◌, ◌+◌, ◌-◌, ◌≤◌, length};
 ghost use Rattle.shifts.specs.Rule.{t};
 ghost use Rattle.group.specs.Ranges.{widest};

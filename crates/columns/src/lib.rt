@@ -1,4 +1,6 @@
 // What the later columns, solved already, put into a column, taken out of it before it is solved itself.
+#![tactic(auto)]
+
 ghost use Rattle.std.specs.Prelude.{◌≡◌, ◌-◌, ◌≤◌, min, length};
 ghost use Rattle.shifts.specs.Rule.{t};
 ghost use Rattle.lengths.specs.Lengths.{file_letters};

@@ -1,4 +1,6 @@
 // What a node holds, compared with its packets of a file while they are made. No packet is laid down anywhere, so that nobody needs room for one.
+#![tactic(auto)]
+
 ghost use Rattle.std.specs.Prelude.{◌≡◌, ◌≤◌, length, get_or};
 ghost use Rattle.letters.specs.Algebra.{xors};
 ghost use Rattle.shifts.specs.Rule.{t};

@@ -1,4 +1,6 @@
 // All nodes compared with a file, up to the second that it doesn't fit.
+#![tactic(auto)]
+
 ghost use Rattle.std.specs.Prelude.{◌≡◌, ◌+◌, ◌≤◌, ◌<◌, length};
 ghost use Rattle.lengths.specs.Lengths.{file_letters};
 ghost use Rattle.agreement.specs.Steps.Trying.{Compared};
@@ -8,7 +10,7 @@ ghost use Rattle.comparing_nodes.specs.Steps.Noting.{noted};
 use group::Group;
 
 // How many nodes the file doesn't fit: none, one, or two where there are more. Of the first of them its rank, and the place of its first wrong letter, both from 1.
-#[derive(Drop)]
+#[derive(Clone, Copy)]
 pub struct Found {
     pub wrong: usize,
     pub rank: usize,

@@ -1,5 +1,7 @@
 // The terms of document 01's sums whose letter isn't zero (docs/SCHEME.md, 8), counted by their definition over the solution: of each sequence the letters that
 // aren't zero, less those that fall outside, which are some of its first or of its last. So each sequence is gone through once, and its ends once for each rank.
+#![tactic(auto)]
+
 ghost use Rattle.std.specs.Prelude.{◌≡◌, ◌+◌, ◌-◌, ◌*◌, ◌^◌, ◌≤◌, length};
 ghost use Rattle.system.specs.System.{sequence};
 ghost use Rattle.system.specs.Count.{other, additions};

@@ -2,6 +2,8 @@
 // written. `<` stands before a letter that is handed in, `>` before one that must come out (`>` alone: a zero that isn't shown), `=` before the
 // count, the refusal and its place, or the number of bytes that must come out, `@` before an id, a rank, or a number of bytes that is handed in.
 // Each line is run and compared, and the last one says how many agree.
+#![tactic(auto)]
+
 mod turn;
 
 // Runs the lines one after another, on one memory: what a line leaves there is still there for the next. From P8 on, L is 1.

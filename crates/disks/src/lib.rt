@@ -1,5 +1,7 @@
 // Six disks in one memory, for the program `tour`: the shares of batch 7 in [6,3,4], L = 16. Node i's share starts at index 146 i; it has at most
 // 146 bytes, and a node at most 124 letters.
+#![tactic(auto)]
+
 use group::Group;
 use share::Judgment;
 
@@ -18,7 +20,7 @@ pub fn bytes(node: usize) -> usize {
 }
 
 // What bytes are judged to be: for a text, 0 complete, 1 unfinished, 2 malformed, and then the number and the place.
-#[derive(Drop)]
+#[derive(Clone, Copy)]
 pub struct Judged {
     pub choice: usize,
     pub number: usize,

@@ -1,4 +1,5 @@
 // Running sums in strides: they undo the addition of a run, moved, to itself. Moving a run by w letters is called D^w.
+#![tactic(auto)]
 
 ghost use Rattle.std.specs.Prelude.{◌≡◌, ◌+◌, ◌-◌, ◌≤◌, ◌<◌, length};
 ghost use Rattle.letters.specs.Steps.Rests.{left_over};

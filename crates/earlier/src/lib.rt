@@ -1,4 +1,6 @@
 // What the equations of a tile read from before it, taken out of its runs.
+#![tactic(auto)]
+
 ghost use Rattle.std.specs.Prelude.{◌≡◌, ◌+◌, ◌*◌, ◌≤◌, ◌<◌, length};
 ghost use Rattle.equation.specs.Rows.{shift_in, Solvable};
 ghost use Rattle.equation.specs.Delays.{Delays};

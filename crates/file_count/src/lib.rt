@@ -1,5 +1,7 @@
 // The count of a recovery over the file that came out (docs/SCHEME.md, 8), entry by entry: each one's letters are gone through once, for the terms of solving its column and for those
 // that take it out of the columns before.
+#![tactic(auto)]
+
 ghost use Rattle.std.specs.Prelude.{◌≡◌, ◌+◌, ◌-◌, ◌*◌, ◌≤◌, min};
 ghost use Rattle.matrix.specs.Matrix.{entry_number};
 ghost use Rattle.matrix.specs.Counts.{recovery_count};

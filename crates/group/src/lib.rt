@@ -1,4 +1,5 @@
 // A group of nodes and its numbers, and the refusals and checks that calls share.
+#![tactic(auto)]
 
 ghost use Rattle.std.specs.Prelude.{◌≡◌};
 ghost use Rattle.group.specs.Answers.{refusal_number, number_of};
@@ -6,7 +7,7 @@ ghost use Rattle.group.specs.Ranges.{group_of};
 
 // A group's numbers, any numbers: n nodes, any k of which give a batch back and any d of which rebuild a lost one,
 // and l letters in a sequence. Which numbers are allowed is what `checks` tells.
-#[derive(Drop)]
+#[derive(Clone, Copy)]
 pub struct Group {
     pub n: usize,
     pub k: usize,
@@ -22,7 +23,7 @@ pub fn of(n: usize, k: usize, d: usize, l: usize) -> Group
 }
 
 // Why a call is turned down. `refusal_number` in specs/ gives the number of document 01 (docs/SCHEME.md, 11) for each.
-#[derive(Drop)]
+#[derive(Clone, Copy)]
 pub enum Refusal {
     // 1: n, k or d is outside its range.
     Numbers,
@@ -54,14 +55,14 @@ pub enum Refusal {
 }
 
 // What a check finds.
-#[derive(Drop)]
+#[derive(Clone, Copy)]
 pub enum Check {
     Fine,
     Refused(Refusal),
 }
 
 // What a call answers: a number (a count, a length, a place; 0 where there is nothing to tell), or why it is refused.
-#[derive(Drop)]
+#[derive(Clone, Copy)]
 pub enum Answer {
     Value(usize),
     Refused(Refusal),

@@ -1,4 +1,6 @@
 // The checks that calls share. Each answers `Fine`, or the lowest refusal that applies to what it is handed.
+#![tactic(auto)]
+
 ghost use Rattle.std.specs.Prelude.{◌≡◌, eqb};
 ghost use Rattle.group.specs.Answers.{check_number, first, unless, refusal_number};
 ghost use Rattle.group.specs.Ranges.{between, group_refusal, node_refusal, id_refusal, numbers_in_range, length_in_range};

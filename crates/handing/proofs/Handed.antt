@@ -30,7 +30,7 @@ module _ (count : ℕ) (lent part : Bor (List ℕ)) where
       letters_once zero = refl
       letters_once (suc q) = refl
 
-      offset_once : (q : ℕ) → lent.ptr.1 + if_fine q (if_fine q v 0) 0 ≡ lent.ptr.1 + if_fine q v 0
+      offset_once : (q : ℕ) → lent.ref_ptr.1 + if_fine q (if_fine q v 0) 0 ≡ lent.ref_ptr.1 + if_fine q v 0
       offset_once zero = refl
       offset_once (suc q) = refl
 

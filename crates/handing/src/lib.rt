@@ -1,4 +1,6 @@
 // A part of what a caller lent, handed back where it stands.
+#![tactic(auto)]
+
 ghost use Rattle.std.specs.Prelude.{length};
 ghost use Rattle.group.specs.Answers.{number_of, value_of};
 ghost use Rattle.handing.specs.Parts.{PartOf, Within};

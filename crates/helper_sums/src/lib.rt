@@ -1,4 +1,6 @@
 // The sum of a helper's packets, each moved right by the lost node's shift, as the window of its rank sees it.
+#![tactic(auto)]
+
 ghost use Rattle.std.specs.Prelude.{◌≡◌, ◌-◌, length};
 ghost use Rattle.letters.specs.Algebra.{xors};
 ghost use Rattle.shifts.specs.Table.{Table};

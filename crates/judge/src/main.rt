@@ -1,5 +1,7 @@
 // Judges the share on standard input, and writes one line: what it is. Where standard input can't be read, there is a line on standard
 // error, and no judgment.
+#![tactic(auto)]
+
 mod input;
 
 use libc::{STDERR_FILENO, STDOUT_FILENO};

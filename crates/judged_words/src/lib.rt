@@ -1,5 +1,7 @@
 // Judgments as the test programs write them: the number in the table of documents 01 and 02 (docs/SCHEME.md, 11), 0 for a share, and with
 // 8 to 12 the index of the first byte that can't stand, as `9 at 4`.
+#![tactic(auto)]
+
 mod runs;
 
 use heads::Head;

@@ -2,7 +2,7 @@
 use judging::Judgment;
 
 // What is found for the numbers from `first` on: a judgment's number and place; or that there is none.
-#[derive(Drop)]
+#[derive(Clone, Copy)]
 pub struct Run {
     pub first: usize,
     pub none: bool,

@@ -1,4 +1,6 @@
 // What bytes are: a share, the beginning of one, or neither. The search for the first byte that can't stand where it is tells.
+#![tactic(auto)]
+
 ghost use Rattle.std.specs.Prelude.{◌≡◌, ◌≤◌, ◌<◌};
 ghost use Rattle.records.specs.Records.{block_size, total_limit, size_for};
 ghost use Rattle.kinds.specs.Kinds.{head_size};
@@ -10,7 +12,7 @@ use heads::{Head, bytes as head_bytes};
 use records::sizes;
 
 // What bytes are found to be. `outcome_of` in specs/ gives each case in the numbers of documents 01 and 02 (docs/SCHEME.md, 11).
-#[derive(Drop)]
+#[derive(Clone, Copy)]
 pub enum Judgment {
     // A share, and its head.
     Complete(Head),

@@ -1,5 +1,7 @@
 // The kinds of head that a share may have, as rows of one table: the ranges of a kind's numbers, the bytes of its L, and its T. A later kind is a
 // row more, here and in specs/Kinds.antt.
+#![tactic(auto)]
+
 ghost use Rattle.std.specs.Prelude.{◌≡◌, true, ◌-◌, ◌^◌, ◌≤◌, eqb, get_or};
 ghost use Rattle.group.specs.Answers.{check_number, value_of};
 ghost use Rattle.records.specs.Steps.Ranges.{range_tests};
@@ -23,7 +25,7 @@ pub const REPAIRING_LONGER: usize = 6;
 const LONGEST_OF_KIND_ONE: usize = 4096;
 
 // What a kind says of k and d, where n and k are known: the most k, and the range of d.
-#[derive(Drop)]
+#[derive(Clone, Copy)]
 pub struct Limits {
     pub most_k: usize,
     pub least_d: usize,

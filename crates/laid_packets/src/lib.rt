@@ -1,4 +1,6 @@
 // Packets whose letters are each written once where all entries of the column have one, between the widest shift and L.
+#![tactic(auto)]
+
 ghost use Rattle.std.specs.Prelude.{◌≡◌, ◌+◌, ◌≤◌, length};
 ghost use Rattle.letters.specs.Algebra.{xors};
 ghost use Rattle.shifts.specs.Rule.{t};

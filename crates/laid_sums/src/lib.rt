@@ -1,4 +1,6 @@
 // A sum of several runs of one buffer laid into another, in one pass: each letter of the sum is written once, and nothing is cleared first.
+#![tactic(auto)]
+
 mod apart;
 
 ghost use Rattle.std.specs.Prelude.{length};

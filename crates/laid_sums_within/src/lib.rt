@@ -1,4 +1,6 @@
 // A sum of several runs laid into the buffer that they are runs of, in one pass.
+#![tactic(auto)]
+
 mod within;
 
 ghost use Rattle.std.specs.Prelude.{◌+◌, ◌-◌, length};

@@ -1,4 +1,6 @@
 // A state that is lent: `arriving::take` changes a state where it lies, and here is one that lies in a local.
+#![tactic(auto)]
+
 ghost use Rattle.arriving.specs.Calls.{Takes};
 
 use arriving::Arriving;

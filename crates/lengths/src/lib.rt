@@ -1,4 +1,6 @@
 // Every length that follows from a group's numbers: of a file, of a node, of a packet and of what a helper sends.
+#![tactic(auto)]
+
 pub mod known;
 
 ghost use Rattle.group.specs.Answers.{Answers};

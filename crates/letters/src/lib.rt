@@ -1,4 +1,6 @@
 // Letters: bytes under XOR, their algebra and its laws; runs that are copied or cleared.
+#![tactic(auto)]
+
 pub mod moving;
 
 ghost use Rattle.std.specs.Prelude.{◌≡◌, min};

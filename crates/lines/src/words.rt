@@ -1,14 +1,16 @@
 // Words, numbers and letters on standard output.
 use group::Answer;
-use libc::STDOUT_FILENO;
+
+// Standard output's descriptor.
+const STDOUT: i32 = 1;
 
 pub fn say(words: &[u8]) {
-    io::write_all(STDOUT_FILENO, words);
+    io::write_all(STDOUT, words);
 }
 
 // A number.
 pub fn decimal(n: usize) {
-    io::print_decimal(STDOUT_FILENO, n as u64);
+    io::print_decimal(STDOUT, n as u64);
 }
 
 // Some words and a number after them.
@@ -20,7 +22,7 @@ pub fn number(words: &[u8], n: usize) {
 // A letter as two hexadecimal digits.
 fn letter(letter: u8) {
     say(b" ");
-    io::print_hex(STDOUT_FILENO, letter as u64, 2);
+    io::print_hex(STDOUT, letter as u64, 2);
 }
 
 // Some words, and the letters after them.

@@ -1,6 +1,8 @@
 // Long sequences, at and around every limit of L: on few nodes a file is encoded, stored, cut, judged and read, recovered from k nodes, and a lost
 // node is repaired by d. Of each step its answer is written, and one number that stands for all letters that it left. tools/longer_model.py works
 // out what must be written, from documents 01 and 02 (docs/SCHEME.md) alone.
+#![tactic(auto)]
+
 mod collecting;
 mod rebuilding;
 mod steps;

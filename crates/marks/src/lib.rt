@@ -1,6 +1,8 @@
 // Texts with marks in them: what a program writes stands in one place, as it is read, and the marks say what goes in there. `#` is a number; of
 // `{one|another|..}` a number picks one, from 0 on. `<`, `>`, `@` and `=` stand before letters or numbers that the program takes from the
 // text, and aren't written.
+#![tactic(auto)]
+
 ghost use Rattle.std.specs.Prelude.{◌≤◌, length};
 
 // The value of the hexadecimal digit so far behind index `at`; 16 where none is there.

@@ -1,5 +1,7 @@
 // Letters that are compared with a sum of runs while it is made: a block of the sum is put together in local memory, which the compiler keeps in registers, and compared
 // there, so that the sum is laid down nowhere.
+#![tactic(auto)]
+
 pub mod blocks;
 pub mod one_by_one;
 

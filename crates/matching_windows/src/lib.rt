@@ -1,4 +1,6 @@
 // Letters compared with a sum of runs that are each moved right, seen through a window: where all of them have a letter in blocks, and at the two ends run by run.
+#![tactic(auto)]
+
 ghost use Rattle.std.specs.Prelude.{◌≡◌, ◌+◌, ◌≤◌, length};
 ghost use Rattle.sequences.specs.Steps.MovedRuns.{MovedRuns, AllSeen};
 ghost use Rattle.matching.specs.Same.{SameFor};

@@ -1,2 +1,4 @@
 // What a node holds: its packets of a file.
+#![tactic(auto)]
+
 pub mod encoding;

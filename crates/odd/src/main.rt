@@ -1,6 +1,8 @@
 // Which node holds the odd frame: compares the shares of one batch that its arguments name, and says of each node whether it agrees with the others, of an
 // odd one where its first wrong letter stands. What is in the way of an answer it says on standard error, and then there is none. Each file is read twice:
 // first all are looked at, and then their letters go where the library's call wants them.
+#![tactic(auto)]
+
 ghost use Rattle.std.specs.Prelude.{◌≡◌, ◌≤◌, length};
 
 use heads::Head;

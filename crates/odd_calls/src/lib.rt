@@ -1,4 +1,6 @@
 // The call that looks for the odd one of some nodes, by its number in a script (docs/SCRIPTS.md).
+#![tactic(auto)]
+
 mod told;
 
 use script_line::Line;

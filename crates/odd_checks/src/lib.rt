@@ -1,4 +1,6 @@
 // Which node is lying: what refuses the question.
+#![tactic(auto)]
+
 ghost use Rattle.std.specs.Prelude.{◌≡◌};
 ghost use Rattle.group.specs.Answers.{check_number};
 ghost use Rattle.odd_checks.specs.Refusals.{present_refusal, lengths_refusal, odd_refusal};

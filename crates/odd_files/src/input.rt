@@ -1,6 +1,6 @@
 // A file's bytes, told apart from a file that can't be read or is too long. What is the matter with one is said here.
 // What was read: so many bytes, and whether there are more; or a read failed, and then they don't count.
-#[derive(Drop)]
+#[derive(Clone, Copy)]
 pub struct Input {
     pub count: usize,
     pub more: bool,

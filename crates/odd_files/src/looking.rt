@@ -5,7 +5,7 @@ use share::Judgment;
 
 // What the files so far have shown: the head of the first share and the number of its file, 0 where there is none yet; and whether something is in the way of
 // an answer.
-#[derive(Drop)]
+#[derive(Clone, Copy)]
 pub struct Seen {
     pub head: Head,
     pub first: usize,

@@ -4,7 +4,7 @@ use odd_files::{batch, input, table};
 use share::Judgment;
 
 // So many nodes are gathered, and their letters end here; or a file stood in the way.
-#[derive(Drop)]
+#[derive(Clone, Copy)]
 pub struct Gathered {
     pub nodes: usize,
     pub end: usize,

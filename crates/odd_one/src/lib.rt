@@ -1,4 +1,6 @@
 // Which node is lying: of the nodes that are present, the one that holds other packets than the file of all the others gives it.
+#![tactic(auto)]
+
 ghost use Rattle.std.specs.Prelude.{◌≡◌, length};
 ghost use Rattle.odd_checks.specs.Refusals.{odd_refusal};
 ghost use Rattle.odd_one.specs.Calls.{Reports};

@@ -1,5 +1,7 @@
 // What the program `odd` says on standard error: what is in the way of an answer, and what to do. Each text is written by a function that does little else:
 // what is proved of a literal grows with all that is at hand beside it.
+#![tactic(auto)]
+
 pub mod saying;
 
 use group::Group;

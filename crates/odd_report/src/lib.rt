@@ -1,10 +1,12 @@
 // Which node is lying: the report, how each of sixteen nodes stands.
+#![tactic(auto)]
+
 pub mod reporting;
 
 use group::Check;
 
 // How a node stands beside the others that are present.
-#[derive(Drop)]
+#[derive(Clone, Copy)]
 pub enum Standing {
     // It isn't present, or the call is refused.
     Absent,
@@ -17,13 +19,13 @@ pub enum Standing {
 }
 
 // What the report says of one node.
-#[derive(Drop)]
+#[derive(Clone, Copy)]
 pub struct Node {
     pub standing: Standing,
 }
 
 // What comes back: whether the call is refused, and how each of sixteen nodes stands, node i at index i - 1.
-#[derive(Drop)]
+#[derive(Clone, Copy)]
 pub struct Report {
     pub check: Check,
     pub nodes: [Node; 16],

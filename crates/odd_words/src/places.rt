@@ -6,7 +6,7 @@ use heads::Head;
 use records::sizes;
 
 // A packet and a letter in it, both from 1; and an index in the share, from 0.
-#[derive(Drop)]
+#[derive(Clone, Copy)]
 pub struct Place {
     pub packet: usize,
     pub letter: usize,

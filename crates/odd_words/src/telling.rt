@@ -6,7 +6,7 @@ use odd_files::{batch, table};
 use odd_one::{Report, Standing};
 
 // What the lines so far come to.
-#[derive(Drop)]
+#[derive(Clone, Copy)]
 enum Outcome {
     AllAgree,
     OneIsOdd(usize),

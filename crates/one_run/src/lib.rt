@@ -1,4 +1,6 @@
 // What a turn does to one run of a buffer: another one, moved right, is added to it, or it is summed up in strides.
+#![tactic(auto)]
+
 ghost use Rattle.std.specs.Prelude.{◌+◌, ◌≤◌, length};
 ghost use Rattle.one_run.specs.Steps.Runs.{RunAdded, RunSummed};
 

@@ -1,4 +1,6 @@
 // One turn of a tile that is solved by itself: what a run does to all runs after it, on the way down and on the way up.
+#![tactic(auto)]
+
 ghost use Rattle.std.specs.Prelude.{◌≡◌, ◌-◌, ◌≤◌, length};
 ghost use Rattle.system.specs.Order.{Ordered};
 ghost use Rattle.tiles.specs.Even.{lag};

@@ -1,15 +1,18 @@
 // A text of any length, read page by page into one room. A line that the end of a page cuts is carried over to the front of the room, where
 // the next page goes on with it.
+#![tactic(auto)]
+
 ghost use Rattle.std.specs.Prelude.{◌≤◌, length};
 
-use libc::STDIN_FILENO;
+// Standard input's descriptor.
+const STDIN: i32 = 0;
 
 // Reads on behind the first `kept` bytes, until the room is full or the input ends. The answer is how many bytes are there then.
 pub fn more(room: &mut [u8], kept: usize) -> usize
     requires { kept ≤ length room.old }
     ensures { result ≤ length room.old }
 {
-    kept + io::read_full(STDIN_FILENO, &mut room[kept..])
+    kept + io::read_full(STDIN, &mut room[kept..])
 }
 
 // Where the whole lines of a page of `count` bytes end: behind its last newline. A page without one is a line, and one that doesn't fill the room

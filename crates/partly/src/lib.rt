@@ -1,4 +1,6 @@
 // A head of which the first bytes are in, and no more: its numbers are those of these bytes with zeros after them.
+#![tactic(auto)]
+
 ghost use Rattle.std.specs.Prelude.{◌≡◌, true, ◌++◌, ◌↔◌, ◌≤◌, ◌<◌, get_or, take};
 ghost use Rattle.kinds.specs.Kinds.{head_size};
 ghost use Rattle.heads.specs.Heads.{head_record};

@@ -1,4 +1,6 @@
 // Nodes that are present: where each one's letters start in what was handed in.
+#![tactic(auto)]
+
 ghost use Rattle.std.specs.Prelude.{length};
 ghost use Rattle.matrix.specs.Pieces.{Chosen};
 ghost use Rattle.present.specs.Steps.Places.{StartsAt};

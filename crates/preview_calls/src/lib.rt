@@ -1,5 +1,7 @@
 // The calls of previews by their numbers in a script (docs/SCRIPTS.md). The numbers of a line after its two slices are the group's, [n,k,d] and L, where
 // d is 0 in a group of previews, and then the call's own, which are a node and a rank, or the ids.
+#![tactic(auto)]
+
 use group::{Answer, Group};
 use script_line::Line;
 

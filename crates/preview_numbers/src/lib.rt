@@ -1,4 +1,6 @@
 // A group of previews: what its numbers may be, and every length that follows from them.
+#![tactic(auto)]
+
 pub mod checks;
 pub mod known;
 

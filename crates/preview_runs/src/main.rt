@@ -1,8 +1,11 @@
 // Runs the calls of previews as the script on standard input says, and writes each line again with what comes back. tools/preview_model.py makes
 // the script and what must be written, from documents 01 and 02 (docs/SCHEME.md) alone and by elimination.
+#![tactic(auto)]
+
 mod turn;
 
-use libc::STDIN_FILENO;
+// Standard input's descriptor.
+const STDIN: i32 = 0;
 
 // Line by line. `found` is the room for the numbers of a line.
 fn main() {
@@ -10,7 +13,7 @@ fn main() {
     let mut a = lines::room();
     let mut b = lines::room();
     let mut found = [0usize; 32];
-    let count = io::read_full(STDIN_FILENO, &mut room);
+    let count = io::read_full(STDIN, &mut room);
     let text = &room[..count];
     let mut at = 0;
     while at < text.len() {

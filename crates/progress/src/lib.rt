@@ -1,5 +1,7 @@
 // What is said to people of a share that is coming in: whose it is, and how many of how many bytes are in; or which byte can't stand, and what would
 // stand there.
+#![tactic(auto)]
+
 ghost use Rattle.std.specs.Prelude.{◌≡◌, ◌≤◌, length};
 ghost use Rattle.io.specs.Counts.{IsPrefixLen};
 

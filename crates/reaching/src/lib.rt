@@ -1,4 +1,6 @@
 // Which numbers bytes lead to, and how a head grows by further bytes.
+#![tactic(auto)]
+
 ghost use Rattle.std.specs.Prelude.{◌≡◌, true, [], ◌∷◌, ◌↔◌, ◌≤◌, ◌<◌};
 ghost use Rattle.records.specs.Records.{total_limit, size_for};
 ghost use Rattle.kinds.specs.Kinds.{head_size};

@@ -1,4 +1,6 @@
 // Reading a share: its letters, where the bytes are one and there is room for exactly them.
+#![tactic(auto)]
+
 ghost use Rattle.layout.specs.Judgment.{IsShareOf};
 ghost use Rattle.heads.specs.Heads.{heads};
 ghost use Rattle.judging.specs.Judging.{outcome_of};

@@ -1,4 +1,6 @@
 // Which byte can stand in the records that follow a share's head.
+#![tactic(auto)]
+
 ghost use Rattle.std.specs.Prelude.{◌≡◌, ◌<◌};
 ghost use Rattle.records.specs.Steps.Places.{block_stands, end_stands, record_stands};
 ghost use Rattle.records.specs.Records.{block_size, total_limit};

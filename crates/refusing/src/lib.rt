@@ -1,4 +1,6 @@
 // How a byte is refused that can't stand where it is: where it would stand decides.
+#![tactic(auto)]
+
 ghost use Rattle.std.specs.Prelude.{◌≡◌, ◌≤◌, ◌<◌};
 ghost use Rattle.records.specs.Records.{block_size, total_limit};
 ghost use Rattle.refusing.specs.Steps.Refusing.{refusal_at};

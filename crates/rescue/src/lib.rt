@@ -1,4 +1,5 @@
 // Disk 2 rebuilt from the disks 6, 4, 3 and 1, and the batch recovered from the disks 4, 2 and 1: for the program `tour`.
+#![tactic(auto)]
 
 // The piece of a helper for the rebuilding of node 2, 19 letters, at its rank's place in the buffer. Ranks count from 0 here.
 fn help(rank: usize, helper: usize, disks: &[u8], buffer: &mut [u8]) {

@@ -1,4 +1,6 @@
 // The rounds of a system: which ranks have begun and which have ended after so many, how far a tile goes, and the small tables from which that is seen.
+#![tactic(auto)]
+
 pub mod tables;
 
 ghost use Rattle.std.specs.Prelude.{ℕ, ◌+◌, ◌^◌, ◌≤◌, ◌<◌, ◌≡◌, length, get_or};

@@ -3,6 +3,8 @@
 // A and one of the memory B. A is what the calls are lent as input, and B as output or to work in place. The operations below 10 are of the
 // memories and are here; those of the calls are in libraries of their own, which `all_calls` has together. Each line is written again with what
 // comes of it behind it; one without numbers is a heading.
+#![tactic(auto)]
+
 mod memory;
 mod telling;
 

@@ -1,11 +1,13 @@
 // A line of a script: its numbers, and what they are called. They are, in this order: the operation, a slice of the memory A by its start
 // and its length, a slice of the memory B in the same way, and what the operation wants besides. Words between them are for the reader.
+#![tactic(auto)]
+
 ghost use Rattle.std.specs.Prelude.{◌≡◌, ◌+◌, ◌≤◌, ◌<◌, length};
 
 use group::Group;
 
 // How far a line is read: the index of the number that comes next, whether a digit of it was seen, and what its digits are worth so far.
-#[derive(Drop)]
+#[derive(Clone, Copy)]
 pub struct Place {
     pub next: usize,
     pub inside: bool,
@@ -14,7 +16,7 @@ pub struct Place {
 
 // What a line says. `own` is the first number after the two slices; a call that is handed a group has it there, and its other numbers
 // behind it. Numbers that a line doesn't have are 0.
-#[derive(Drop)]
+#[derive(Clone, Copy)]
 pub struct Line {
     pub length: usize,
     pub next: usize,

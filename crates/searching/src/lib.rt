@@ -1,4 +1,6 @@
 // The search for the first byte that can't stand where it is.
+#![tactic(auto)]
+
 ghost use Rattle.std.specs.Prelude.{◌≡◌, ◌⊎◌, ◌+◌, ◌≤◌, ◌<◌, length};
 ghost use Rattle.records.specs.Records.{block_size, total_limit};
 ghost use Rattle.records.specs.Steps.Places.{stands_in};

@@ -1,4 +1,6 @@
 // A node's packets as stored bytes: the share, written, judged, also while it arrives, and read.
+#![tactic(auto)]
+
 mod writing;
 
 ghost use Rattle.group.specs.Answers.{Answers};

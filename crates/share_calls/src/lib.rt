@@ -1,4 +1,6 @@
 // The calls on shares by their numbers in a script (docs/SCRIPTS.md).
+#![tactic(auto)]
+
 mod sweep;
 
 use group::Answer;

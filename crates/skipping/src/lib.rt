@@ -1,4 +1,6 @@
 // What a reader of a share can step over: letters, the zeros that fill a block up, and whole full blocks.
+#![tactic(auto)]
+
 ghost use Rattle.std.specs.Prelude.{◌≤◌, ◌<◌, length};
 ghost use Rattle.records.specs.Records.{total_limit};
 ghost use Rattle.skipping.specs.Steps.Skipping.{Lettered, ZerosTo, Skips, FullBlocks};

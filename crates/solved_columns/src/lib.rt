@@ -1,4 +1,6 @@
 // The columns of a file solved one after another, from the last one down: recovery for a group, ids and a buffer that are known to be right, with nothing counted.
+#![tactic(auto)]
+
 ghost use Rattle.std.specs.Prelude.{◌≡◌, ◌≤◌, length};
 ghost use Rattle.letters.specs.Algebra.{xors};
 ghost use Rattle.shifts.specs.Rule.{t};

@@ -1,5 +1,7 @@
 // The solver of a system of shifted sums: s pieces of n letters are turned, where they lie, into the s sequences that they are sums of. It goes by tiles: rounds in which the same
 // ranks have a letter, whose runs are solved as wholes.
+#![tactic(auto)]
+
 ghost use Rattle.std.specs.Prelude.{◌≡◌, ◌+◌, ◌*◌, ◌^◌, ◌≤◌, ◌<◌, length};
 ghost use Rattle.equation.specs.Rows.{shift_in, Solvable};
 ghost use Rattle.tiles.specs.Tile.{Tile};

@@ -1,11 +1,13 @@
 // Where a run of a tile reads a sequence from before the tile.
+#![tactic(auto)]
+
 ghost use Rattle.std.specs.Prelude.{◌+◌, ◌^◌, ◌≤◌};
 ghost use Rattle.equation.specs.Rows.{shift_in, Solvable};
 ghost use Rattle.equation.specs.Delays.{Delays};
 ghost use Rattle.spans.specs.Steps.Spans.{RunPlaced, HasBegun, ReadsSpan, ReadsBefore};
 
 // The letters of a sequence that a run reads: the first of them is read by the letter after `skip` of the run, and stands at place `place`.
-#[derive(Drop)]
+#[derive(Clone, Copy)]
 pub struct Span {
     pub skip: usize,
     pub place: usize,

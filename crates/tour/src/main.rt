@@ -1,5 +1,6 @@
 // A whole night in one screen: a batch is spread over six disks, one fills up, two are lost, one of them is rebuilt from four others, and
 // the batch comes back from three. The text below is what it says, with places for the numbers. The file stdout has it as it is written.
+#![tactic(auto)]
 
 // Disk 2, which is lost, is rebuilt and compared.
 fn rebuild(text: &[u8], file: &[u8], disks: &mut [u8]) {

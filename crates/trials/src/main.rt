@@ -1,5 +1,7 @@
 // Runs every call as the script on standard input says, and writes each line again with what comes back. The models in tools/ make the script
 // and what must be written, part by part, from documents 01 and 02 (docs/SCHEME.md) alone. docs/SCRIPTS.md says what a line is.
+#![tactic(auto)]
+
 use arriving::Arriving;
 
 // Page by page: reads on behind the bytes of a cut line that are kept at the front of the room, and runs the whole lines. A page that doesn't fill the

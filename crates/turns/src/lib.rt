@@ -1,4 +1,6 @@
 // A tile solved by itself, run by run: Newton's interpolation, divided differences on the way down and from Newton's basis to powers on the way up.
+#![tactic(auto)]
+
 ghost use Rattle.std.specs.Prelude.{◌≡◌, ◌-◌, ◌≤◌, length};
 ghost use Rattle.letters.specs.Algebra.{xors};
 ghost use Rattle.system.specs.Order.{Ordered};

@@ -1,5 +1,7 @@
 // The line that the judge writes for any bytes (docs/SCHEME.md, 13). It is made here and nowhere else, so that every program that writes
 // it writes the same.
+#![tactic(auto)]
+
 ghost use Rattle.io.specs.Counts.{IsPrefixLen};
 ghost use Rattle.text.specs.Text.{Put};
 ghost use Rattle.judging.specs.Judging.{outcome_of};

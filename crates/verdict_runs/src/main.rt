@@ -1,13 +1,16 @@
 // The judge's line for every kind of bytes (docs/SCHEME.md, 13): the examples P9 to P12, each thing that can be wrong, a preview's share, the largest
 // numbers, longer sequences, and the two sides of 65,536 bytes. The file stdout has what it must write, by hand from that page.
-use libc::STDOUT_FILENO;
+#![tactic(auto)]
+
+// Standard output's descriptor.
+const STDOUT: i32 = 1;
 
 // Some words, and after them the line for these bytes.
 fn show(words: &[u8], bytes: &[u8]) {
     lines::say(words);
     let mut line = [0u8; 192];
     let count = verdict::line(bytes, &mut line);
-    io::write_all(STDOUT_FILENO, &line[..count]);
+    io::write_all(STDOUT, &line[..count]);
 }
 
 // A share with one zero more.

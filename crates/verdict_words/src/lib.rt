@@ -1,4 +1,6 @@
 // The words and numbers of the judge's line: of a share, and of bytes with something wrong.
+#![tactic(auto)]
+
 ghost use Rattle.std.specs.Prelude.{◌≡◌, ◌≤◌, length};
 ghost use Rattle.text.specs.Text.{Put};
 ghost use Rattle.verdict_words.specs.Words.{complete_group, complete_line, malformed_line};

@@ -1,6 +1,8 @@
 // Judges the share on standard input while it comes in, whatever its length, and keeps none of it. Writes the judge's line as soon as it
 // is known, and on standard error how far the share is. Where standard input can't be read, there is a line on standard error, and no
 // judgment.
+#![tactic(auto)]
+
 mod showing;
 
 use arriving::Arriving;
@@ -8,7 +10,7 @@ use judging::Judgment;
 use libc::{STDERR_FILENO, STDIN_FILENO, STDOUT_FILENO};
 
 // What is known after a burst: whether another one is wanted, and otherwise whether there is a judgment.
-#[derive(Drop)]
+#[derive(Clone, Copy)]
 struct Turn {
     state: Arriving,
     goes_on: bool,

@@ -1,4 +1,6 @@
 // What letters are worth in a count: one each, but for those that are zero, since adding a zero changes nothing. And run addition that reports it.
+#![tactic(auto)]
+
 mod zeros;
 
 ghost use Rattle.std.specs.Prelude.{◌≡◌, ◌+◌, ◌≤◌, length, take, drop};

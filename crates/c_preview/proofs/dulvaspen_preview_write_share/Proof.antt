@@ -1,5 +1,5 @@
 -- `dulvaspen_preview_write_share` meets its contract: it returns the number of the call behind it, which fills the buffer.
-use Rattle.c_shares.proofs.Told.{wrote_of}
+use Rattle.c_preview.proofs.Told.{wrote_of}
 use borrow.Author.Rules.{rules}
 use Rattle.c_preview.proofs.dulvaspen_preview_write_share.Statement.{statement}
 use Rattle.c_preview.proofs.dulvaspen_preview_write_share.Tie as tie

@@ -1,0 +1,17 @@
+-- `blocks::add_blocks` meets its contract: after every turn the first i letters of the later run are in, which are whole blocks.
+use mathlib.Core.Path.{◌≡◌}
+use Prim.Native.Nat.{◌-◌, ◌%◌, ◌≤◌}
+use lib.ListN.{length}
+use Rattle.letters.specs.Steps.Rests.{widest_block}
+use Rattle.adding_within.proofs.Apart.{after}
+use Rattle.adding_within.proofs.blocks.add_blocks.Given as goal
+
+abbrev pub invariant-loop-i : goal.invariant-loop-i
+invariant-loop-i l =
+    (l.i ≤ l.count)
+    × (l.i % widest_block ≡ l.count % widest_block)
+    × (length l.buffer ≡ length l.initial.buffer)
+    × (l.buffer ≡ after l.initial.buffer l.to l.from l.count l.i)
+
+abbrev pub decreases-loop-i : goal.decreases-loop-i
+decreases-loop-i l = l.count - l.i

@@ -1,0 +1,31 @@
+-- `entries::next_start` meets its contract: a row down is one sequence on above the diagonal, and else a whole column.
+use native.Mathlib.Omega.{arith}
+use mathlib.Core.Path.{sym, ap, ap₂, ◌∙◌}
+use Prim.Native.Nat.{◌+◌, ◌*◌}
+use Rattle.matrix.proofs.EntryStarts.{start_beside, start_below, start_at_most}
+use Rattle.matrix.proofs.entries.next_start.Goals as goal
+
+pub overflow_add-result : goal.overflow_add-result
+overflow_add-result c =
+    let s = c in
+    omega (arith, start_at_most s.args.g s.requires.entry.0 s.args.row s.args.column (omega arith) (omega arith) (omega arith) (omega arith))
+
+pub returns-then-row-column : goal.returns-then-row-column
+returns-then-row-column c =
+    let s = c in
+    ap (λ m. m + s.args.g.l) s.requires.start ∙ sym (start_beside s.args.g s.requires.entry.0 s.args.row s.args.column (omega arith) (omega arith) (omega arith))
+
+pub overflow_mul-result : goal.overflow_mul-result
+overflow_mul-result c =
+    let s = c in
+    omega (arith, start_at_most s.args.g s.requires.entry.0 (s.args.row + 1) s.args.column (omega arith) (omega arith) (omega arith) (omega arith), start_below s.args.g s.requires.entry.0 s.args.row s.args.column (omega arith) (omega arith) (omega arith), ap (λ m. m * s.args.g.l) c.lesser.ensures)
+
+pub overflow_add-result-2 : goal.overflow_add-result-2
+overflow_add-result-2 c =
+    let s = c in
+    omega (arith, start_at_most s.args.g s.requires.entry.0 (s.args.row + 1) s.args.column (omega arith) (omega arith) (omega arith) (omega arith), start_below s.args.g s.requires.entry.0 s.args.row s.args.column (omega arith) (omega arith) (omega arith), ap (λ m. m * s.args.g.l) c.lesser.ensures)
+
+pub returns : goal.returns
+returns c =
+    let s = c in
+    ap₂ (λ m w. m + w * s.args.g.l) s.requires.start c.lesser.ensures ∙ sym (start_below s.args.g s.requires.entry.0 s.args.row s.args.column (omega arith) (omega arith) (omega arith))

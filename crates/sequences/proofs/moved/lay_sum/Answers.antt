@@ -1,0 +1,15 @@
+-- `moved::lay_sum` meets its contract: the window's three parts come back one after another, each summed up.
+use native.Mathlib.Omega.{arith}
+use mathlib.Core.List.{[]}
+use Rattle.sequences.proofs.MovedRuns.{all_seen_on, part_length, kept₁, three_parts}
+use Rattle.sequences.proofs.moved.lay_sum.Goals as goal
+
+pub lay_middle-requires : goal.lay_middle-requires
+lay_middle-requires c =
+    let s = c in
+    record { runs = s.requires.runs; all = all_seen_on _ _ _ _ _ _ _ s.requires.middle.0 (part_length _ _ _ s.requires.middle.0.order (omega (arith, s.requires.middle.1, kept₁ _ _ _ _ _ _ _ _ _ _ [] [] s.requires.middle.0.order s.requires.middle.1 c.add_each.ensures))) }
+
+pub returns : goal.returns
+returns c =
+    let s = c in
+    three_parts _ _ _ _ _ _ _ _ _ _ _ _ s.requires.middle.0.order s.requires.middle.1 c.add_each.ensures c.lay_middle.ensures c.add_each-2.ensures

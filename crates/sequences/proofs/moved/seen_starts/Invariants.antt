@@ -1,0 +1,11 @@
+-- `moved::seen_starts` meets its contract: after u turns the first u runs are done.
+use mathlib.Core.Path.{◌≡◌}
+use Prim.Native.Nat.{ℕ, ◌+◌, ◌-◌, ◌≤◌, ◌<◌}
+use lib.ListN.{length, get_or}
+use Rattle.sequences.proofs.moved.seen_starts.Given as goal
+
+abbrev pub invariant-loop-u : goal.invariant-loop-u
+invariant-loop-u l = (l.u ≤ l.sources) × (length l.seen ≡ 16) × ((i : ℕ) → i < l.u → get_or l.seen i 0 ≡ get_or l.starts i 0 + (l.skip - get_or l.leads i 0))
+
+abbrev pub decreases-loop-u : goal.decreases-loop-u
+decreases-loop-u l = l.sources - l.u

@@ -1,0 +1,12 @@
+-- `rows::preview_row` meets its contract: after every turn one shift more stands in the row.
+use mathlib.Core.Path.{◌≡◌}
+use Prim.Native.Nat.{ℕ, ◌+◌, ◌-◌, ◌≤◌, ◌<◌}
+use lib.ListN.{length, get_or}
+use Rattle.shifts.specs.Rule.{preview_shift}
+use Rattle.sequences.proofs.rows.preview_row.Given as goal
+
+abbrev pub invariant-loop-j : goal.invariant-loop-j
+invariant-loop-j l = (l.j ≤ 16) × (length l.row ≡ 16) × ((i : ℕ) → i < l.j → get_or l.row i 0 ≡ preview_shift l.node (i + 1))
+
+abbrev pub decreases-loop-j : goal.decreases-loop-j
+decreases-loop-j l = 16 - l.j
