@@ -10,7 +10,8 @@ import re
 
 COLOURS = ["#f3e3d3", "#f7edc4", "#e6e6c8", "#dff0d8", "#d3ece6", "#e8e0f0", "#d9e6d0", "#f0dede", "#dde8f7"]
 TESTS = {"examples", "desk", "marks", "disks", "rescue", "lines", "pages", "script_line", "script", "judged_words", "lending", "calls", "odd_calls", "share_calls",
-         "arriving_calls", "preview_calls", "all_calls", "trials", "bench_runs", "bench_counts"}
+         "arriving_calls", "arriving_words", "preview_calls", "all_calls", "trials", "store_runs", "odd_runs", "preview_runs", "share_runs", "arriving_runs", "longer_runs",
+         "verdict_runs", "bench_runs", "bench_counts"}
 WIDTH, HEIGHT, GAP, RISE, LANE = 92, 28, 16, 70, 14
 LONGEST = 12  # letters of a name that fit into a box as they are; longer ones are written smaller
 
@@ -21,7 +22,7 @@ def crates():
         line = line.split("#")[0].strip()
         if line:
             name, rest = line.split(":")
-            deps[name] = rest.split()
+            deps[name.split()[0]] = rest.split()
     return {name: [d for d in rest if d in deps] for name, rest in deps.items()}
 
 

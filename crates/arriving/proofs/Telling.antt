@@ -1,16 +1,15 @@
 -- What is told from a state is what the bytes are that lead there.
 use mathlib.Core.Path.{◌≡◌, refl, sym, ap, ap₂, subst, ◌∙◌}
-use mathlib.Core.List.{List, [], ◌∷◌, ◌++◌}
+use mathlib.Core.List.{List, ◌++◌}
 use mathlib.Core.Logic.{inl, inr, ⊎_elim}
 use Prim.Native.Nat.{ℕ, ◌+◌, ◌≤◌, ◌<◌}
 use native.Mathlib.Omega.{arith}
 use lib.ListN.{length, take, get_or-append}
 use lib.Seq.{get_or-take}
-use types.Run.{OneOf}
-use denote.Enum.Declared.{tag_of}
 use borrow.Author.Tests.{lt-ltb}
 use Rattle.letters.specs.Lanes.{Bytes}
 use Rattle.letters.proofs.Cases.{eq_or_ne}
+use Rattle.group.specs.declared.Refusal.{Refusal}
 use Rattle.group.specs.declared.Refusal.TheVariants.{Unfinished}
 use Rattle.group.specs.Answers.{refusal_number, Outcome}
 use Rattle.records.specs.Records.{size_for}
@@ -27,7 +26,6 @@ use Rattle.judging.specs.declared.Judgment.{Judgment}
 use Rattle.judging.specs.Judging.{outcome_of, Judges, CanStandTo}
 use Rattle.refusing.specs.Steps.Refusing.{refusal_at}
 use Rattle.judging.specs.Steps.Judged.{judgment_at}
-use Rattle.judging.specs.contracts.Judgment.{the_type}
 use Rattle.judging.proofs.WouldStand.{same_refusal}
 use Rattle.judging.proofs.Verdicts.{judges, found_share, found_beginning, stand_to}
 use Rattle.arriving.specs.declared.Arriving.{Arriving}
@@ -80,16 +78,13 @@ none_wrong xs bytes s e stand =
 -- A state that isn't judged malformed, but as one of the first two cases, is that of bytes that all stand.
 module _ (s : Arriving) where
   abbrev Fine : Judgment → Type 0
-  Fine r = OneOf (0 ∷ 1 ∷ []) (tag_of the_type r)
-
-  not_third : OneOf (0 ∷ 1 ∷ []) 2 → ⊥
-  not_third o = ⊎_elim (λ e. omega arith) (λ e. omega arith) o
+  Fine r = (x : Refusal) (q : ℕ) → r ≡ Judgment.Malformed x q → ⊥
 
   pub judged_fine : (r : Judgment) → JudgesState s (outcome_of r) → Fine r → Leads s × (s.wrong ≡ 0)
   judged_fine (Judgment.Complete h) (JudgesState.led xs bytes e _ j) fine =
       ((xs, bytes, e), none_wrong xs bytes s e (either_stands heads lawful xs (let w = found_share j in inl (h, w.0, w.1))))
   judged_fine (Judgment.Refused r) (JudgesState.led xs bytes e _ j) fine = ((xs, bytes, e), none_wrong xs bytes s e (either_stands heads lawful xs (inr (found_beginning j).1)))
-  judged_fine (Judgment.Malformed r q) j fine = absurd (not_third fine)
+  judged_fine (Judgment.Malformed r q) j fine = absurd (fine r q refl)
 
 -- a share that begins with bytes whose head is in has this head, and as many bytes as it says
 pub share_told :

@@ -155,6 +155,14 @@ impl Arriving {
         bursts::after_steps(self, bytes, start)
     }
 
+    // The same where the first `start` bytes are stepped over.
+    pub fn after_steps(self, bytes: &[u8], start: usize) -> Arriving
+        requires { StepsOver self bytes.now start }
+        ensures { Takes self bytes.now result }
+    {
+        bursts::after_steps(self, bytes, start)
+    }
+
     // The same where the first `start` bytes are stepped over, and there are some: the search tells how far the others stand.
     fn searched(self, bytes: &[u8], start: usize, letters: usize) -> Arriving
         requires { PastHead self letters × Stepped self.kind self.at letters bytes.now start }

@@ -1,7 +1,7 @@
 // Standard input, told apart from a standard input that can't be read.
 ghost use Rattle.io.specs.Counts.{IsPrefixLen};
 
-use libc::STDIN_FILENO;
+use std::io::Read;
 
 // What was read: so many bytes; and whether a read failed, so that there may be more.
 #[derive(Clone, Copy)]
@@ -10,20 +10,18 @@ pub struct Input {
     pub failed: bool,
 }
 
-// Reads until `bytes` is full, the input ends or a read fails.
-pub fn read(bytes: &mut [u8]) -> Input
+// Reads from `stdin` until `bytes` is full, the input ends or a read fails.
+pub fn read(stdin: &mut impl Read, bytes: &mut [u8]) -> Input
     ensures { IsPrefixLen result.count bytes.new }
 {
     let mut done = 0;
     while done < bytes.len() {
-        let got = libc::read(STDIN_FILENO, &mut bytes[done..]);
-        if got < 0 {
+        let Ok(more) = stdin.read(&mut bytes[done..]) else {
             return Input {
                 count: done,
                 failed: true,
             };
-        }
-        let more = io::count(got, &bytes[done..]);
+        };
         if more == 0 {
             break;
         }

@@ -4,21 +4,24 @@
 
 mod input;
 
-use libc::{STDERR_FILENO, STDOUT_FILENO};
+// The descriptors of standard output and standard error.
+const STDOUT: i32 = 1;
+
+const STDERR: i32 = 2;
 
 // Writes the line for these bytes.
 fn tell(bytes: &[u8]) {
     let mut line = [0u8; 192];
     let count = verdict::line(bytes, &mut line);
-    io::write_all(STDOUT_FILENO, &line[..count]);
+    io::write_all(STDOUT, &line[..count]);
 }
 
 // Reads one byte more than the line is made for, to see whether there are too many.
-fn main() {
+fn main(rt: HostRuntime) {
     let mut bytes = [0u8; 65537];
-    let input = input::read(&mut bytes);
+    let input = input::read(&mut rt.stdin(), &mut bytes);
     if input.failed {
-        io::write_all(STDERR_FILENO, b"judge: standard input can't be read\n");
+        io::write_all(STDERR, b"judge: standard input can't be read\n");
         return;
     }
     let count = input.count;

@@ -1,4 +1,6 @@
 // Text put into a line, word by word.
+#![tactic(auto)]
+
 ghost use Rattle.std.specs.Prelude.{◌+◌, ◌≤◌, length};
 ghost use Rattle.text.specs.Text.{Put, numbered};
 

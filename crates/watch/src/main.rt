@@ -7,7 +7,12 @@ mod showing;
 
 use arriving::Arriving;
 use judging::Judgment;
-use libc::{STDERR_FILENO, STDIN_FILENO, STDOUT_FILENO};
+use std::io::{IsTerminal, Read};
+
+// The descriptors of standard output and standard error.
+const STDOUT: i32 = 1;
+
+const STDERR: i32 = 2;
 
 // What is known after a burst: whether another one is wanted, and otherwise whether there is a judgment.
 #[derive(Clone, Copy)]
@@ -31,23 +36,24 @@ fn take(state: Arriving, bytes: &[u8], moving: bool) -> Turn {
     }
 }
 
-// Reads once, at most 4,096 bytes. Only the end of the input settles what could still become a share, or already is one.
-fn burst(state: Arriving, moving: bool) -> Turn {
+// Reads from `stdin` once, at most 4,096 bytes. Only the end of the input settles what could still become a share, or already is one.
+fn burst(stdin: &mut impl Read, state: Arriving, moving: bool) -> Turn {
     let mut bytes = io::buffer();
-    let got = libc::read(STDIN_FILENO, &mut bytes);
-    if got > 0 {
-        let count = io::count(got, &bytes);
+    let got = stdin.read(&mut bytes);
+    if let Ok(count) = got
+        && count > 0
+    {
         return take(state, &bytes[..count], moving);
     }
     Turn {
         state: state,
         goes_on: false,
-        judged: got == 0,
+        judged: got.is_ok(),
     }
 }
 
 // A proved loop has to end, and nothing says that an input does. So the loop counts its bursts down, from a number that no run uses up.
-fn watch(moving: bool) -> Turn {
+fn watch(stdin: &mut impl Read, moving: bool) -> Turn {
     let mut turn = Turn {
         state: Arriving::start(),
         goes_on: true,
@@ -55,7 +61,7 @@ fn watch(moving: bool) -> Turn {
     };
     let mut bursts = u64::MAX;
     while bursts > 0 && turn.goes_on {
-        turn = burst(turn.state, moving);
+        turn = burst(stdin, turn.state, moving);
         bursts -= 1;
     }
     turn
@@ -65,7 +71,7 @@ fn watch(moving: bool) -> Turn {
 fn tell(judgment: Judgment) {
     let mut line = [0u8; 192];
     let count = verdict::judgment_line(judgment, &mut line);
-    io::write_all(STDOUT_FILENO, &line[..count]);
+    io::write_all(STDOUT, &line[..count]);
 }
 
 // Says that there is no judgment, since the input can't be read to its end.
@@ -73,12 +79,12 @@ fn give_up(state: Arriving, moving: bool) {
     if moving {
         showing::leave(state);
     }
-    io::write_all(STDERR_FILENO, b"watch: standard input can't be read\n");
+    io::write_all(STDERR, b"watch: standard input can't be read\n");
 }
 
-fn main() {
-    let moving = libc::isatty(STDERR_FILENO) == 1;
-    let turn = watch(moving);
+fn main(rt: HostRuntime) {
+    let moving = rt.stderr().is_terminal();
+    let turn = watch(&mut rt.stdin(), moving);
     if turn.judged {
         showing::end(turn.state, moving);
         tell(turn.state.judge());

@@ -2,11 +2,13 @@
 use arriving::{Arriving, Coming};
 use group::Refusal;
 use heads::Head;
-use libc::STDERR_FILENO;
+
+// Standard error's descriptor.
+const STDERR: i32 = 2;
 
 // Writes these words.
 fn say(words: &[u8]) {
-    io::write_all(STDERR_FILENO, words);
+    io::write_all(STDERR, words);
 }
 
 // Writes how far a share is, with no end of the line.
@@ -53,7 +55,7 @@ pub fn end(state: Arriving, moving: bool) {
         }
         Coming::Refused(_) => {
             say(b"no head yet, bytes so far: ");
-            io::print_decimal(STDERR_FILENO, state.at as u64);
+            io::print_decimal(STDERR, state.at as u64);
         }
         Coming::Malformed(refusal, at) => write_wrong(refusal, at),
     }

@@ -1,5 +1,4 @@
 -- `carry` meets its contract: both indexes stay within the room, whose length is kept.
-use Prim.Native.Nat.{◌-◌}
 use lib.ListN.{length-set}
 use native.Mathlib.Omega.{arith}
 use Rattle.pages.proofs.carry.Goals as goal

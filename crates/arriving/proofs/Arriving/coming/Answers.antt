@@ -1,0 +1,40 @@
+-- `coming` meets its contract: malformed as the state is judged, and else the bytes that lead here tell it.
+use mathlib.Core.Path.{sym, ap, subst, ◌∙◌}
+use native.Mathlib.Omega.{arith}
+use Rattle.records.specs.Records.{size_for}
+use Rattle.kinds.specs.Kinds.{head_size}
+use Rattle.kinds.proofs.RowLaws.{size_small}
+use Rattle.heads.specs.declared.Head.{Head}
+use Rattle.heads.specs.Heads.{heads}
+use Rattle.heads.proofs.HeadLaws.{total_small}
+use Rattle.group.specs.Answers.{Outcome}
+use Rattle.judging.specs.Judging.{outcome_of}
+use Rattle.arriving.specs.Calls.{JudgesState, Announces}
+use Rattle.arriving.proofs.Led.{batch_led}
+use Rattle.arriving.proofs.Telling.{judged_fine, announces_early, announces_known}
+use Rattle.arriving.proofs.Arriving.coming.Goals as goal
+
+pub returns-in-Malformed : goal.returns-in-Malformed
+returns-in-Malformed c = Announces.malformed _ _ (subst (λ r. JudgesState c.args.self (outcome_of r)) c.in-Malformed.is c.judge.ensures)
+
+pub returns-then-self-head_size : goal.returns-then-self-head_size
+returns-then-self-head_size c =
+    let w = judged_fine _ c.judge.result c.judge.ensures c.in_default.not-Malformed in
+    announces_early _ w.0 w.1 (omega (arith, c.if-self-head_size.true, c.head_size.ensures))
+
+pub head_so_far-head-requires : goal.head_so_far-head-requires
+head_so_far-head-requires c = batch_led _ (judged_fine _ c.judge.result c.judge.ensures c.in_default.not-Malformed).0
+
+pub size_for-bytes-requires : goal.size_for-bytes-requires
+size_for-bytes-requires c =
+    let h = c.head_so_far-head.result in
+    (omega (arith, c.head_size-front.ensures, size_small h.kind), omega (arith, c.total.ensures, total_small h))
+
+pub returns : goal.returns
+returns c =
+    let s = c.args.self in
+    let w = judged_fine s c.judge.result c.judge.ensures c.in_default.not-Malformed in
+    let head = c.head_so_far-head.ensures in
+    let front = c.head_size-front.ensures ∙ ap (λ (h : Head). head_size h.kind) head in
+    subst (λ h. Announces s (Outcome.fine (h, c.size_for-bytes.result))) (sym head)
+    (announces_known s w.0 w.1 (omega (arith, c.if-self-head_size.false, c.head_size.ensures)) _ _ (c.total.ensures ∙ ap heads.total head) (c.size_for-bytes.ensures ∙ ap (λ f. size_for f c.total.result) front))

@@ -1,0 +1,75 @@
+-- `add_packets` meets its contract: after each turn one packet more is in the sum, and `end` is where the next one starts.
+use mathlib.Core.Path.{◌≡◌, refl, sym, ap₂, subst, ◌∙◌}
+use mathlib.Core.List.{List}
+use Prim.Native.Nat.{ℕ, ◌≤◌, ◌+◌, ◌-◌}
+use lib.ListN.{length, take, drop}
+use Rattle.letters.specs.Algebra.{xors}
+use Rattle.letters.specs.Places.{letter}
+use Rattle.shifts.specs.Rule.{t}
+use Rattle.group.specs.declared.Group.{Group}
+use Rattle.group.specs.Ranges.{NodeOf}
+use Rattle.lengths.specs.Lengths.{packet_start, packet_length, node_letters, repair_letters}
+use Rattle.lengths.proofs.Sizes.{node_at_most, packet_fits}
+use Rattle.matrix.specs.Repair.{held_letter, helper_sum, helping}
+use Rattle.sequences.specs.Steps.Windows.{Seen, Adds, Summed}
+use Rattle.matrix.proofs.Product.{packet_same, packet_first, packet_next}
+use Rattle.sequences.proofs.Summing.{part_adds, summed_none, summed_more, summed_run}
+use native.Mathlib.Omega.{arith}
+use Rattle.helper_sums.proofs.add_packets.Goals as goal
+
+-- a packet is a part of what the helper holds, which the window sees moved right by the lost node's shift
+packet_adds :
+    (g : Group) (helper lost rank : ℕ) → NodeOf g helper → (held before after : List ℕ) (j start size skip lead : ℕ) → j + 1 ≤ g.d
+    → length held ≡ node_letters g helper → start ≡ packet_start g helper (j + 1) → size ≡ packet_length g helper (j + 1)
+    → skip ≡ t helper rank → lead ≡ t lost (j + 1) → Seen (take (start + size - start) (drop start held)) skip lead before after
+    → Adds (held_letter xors g helper held (j + 1)) (t helper rank) (t lost (j + 1)) before after
+unfolding held_letter
+packet_adds g helper lost rank n held before after j start size skip lead last long starts sized skips leads seen =
+    subst (λ m. Adds (held_letter xors g helper held (j + 1)) m (t lost (j + 1)) before after) skips
+    (part_adds held (held_letter xors g helper held (j + 1)) start size (start + size) skip lead (t lost (j + 1)) before after
+    (omega (arith, packet_fits g helper n (j + 1) (omega arith) last)) refl leads
+    (λ p. ap₂ (λ a m. letter 0 held a m p) starts sized) seen)
+
+pub loop-j-init : goal.loop-j-init
+loop-j-init c =
+    let s = c in
+    (omega arith, refl, sym (packet_first s.args.g s.args.helper), summed_none _ _ _ _ c.clear.ensures.zeros)
+
+pub overflow_add-end : goal.overflow_add-end
+overflow_add-end c =
+    let s = c in
+    let l = c in
+    omega (arith, node_at_most s.args.g s.args.helper s.requires.helper.0.other, packet_fits s.args.g s.args.helper s.requires.helper.0.other (l.loop-j.j + 1) (omega arith) (omega arith), l.loop-j.invariant.2, s.requires.helper.1, packet_same s.args.g s.args.helper 1 (l.loop-j.j + 1))
+
+pub slice_bounds-add_seen-end : goal.slice_bounds-add_seen-end
+slice_bounds-add_seen-end c =
+    let s = c in
+    let l = c in
+    omega (arith, s.requires.lengths.0, packet_fits s.args.g s.args.helper s.requires.helper.0.other (l.loop-j.j + 1) (omega arith) (omega arith), l.loop-j.invariant.2, s.requires.helper.1, packet_same s.args.g s.args.helper 1 (l.loop-j.j + 1))
+
+pub loop-j-preserved : goal.loop-j-preserved
+loop-j-preserved c =
+    let s = c in
+    let l = c in
+    let sized = s.requires.helper.1 ∙ packet_same s.args.g s.args.helper 1 (l.loop-j.j + 1) in (
+      omega arith,
+      c.add_seen.ensures.same_length ∙ l.loop-j.invariant.1,
+      ap₂ ◌+◌ l.loop-j.invariant.2 sized ∙ sym (packet_next s.args.g s.args.helper (l.loop-j.j + 1) (omega arith)),
+      summed_more l.loop-j.j _ _ _ _ _ l.loop-j.invariant.3
+          (packet_adds s.args.g s.args.helper s.args.lost s.args.rank s.requires.helper.0.other s.args.packets.now _ _ l.loop-j.j _ _ _ _ (omega arith) s.requires.lengths.0 l.loop-j.invariant.2 sized c.shift_in-skip.ensures c.shift_in-lead.ensures c.add_seen.ensures),
+    )
+
+pub shape_of-piece : goal.shape_of-piece
+shape_of-piece c = c.loop-j.invariant.1 ∙ c.clear.ensures.same_length
+
+pub returns : goal.returns
+unfolding helping helper_sum
+returns c =
+    let l = c in
+    let s = c in
+    let a = s.args in
+    let done : l.loop-j.j ≡ a.g.d = omega arith in
+    summed_run (repair_letters a.g a.lost) a.g.d (t a.helper a.rank) (t a.lost) (held_letter xors a.g a.helper a.packets.now)
+    (λ p. helper_sum xors a.g a.lost a.helper a.packets.now (p + t a.helper a.rank)) l.loop-j.piece (l.loop-j.invariant.1 ∙ c.clear.ensures.same_length ∙ s.requires.lengths.1)
+    (subst (λ m. Summed m (t a.helper a.rank) (t a.lost) (held_letter xors a.g a.helper a.packets.now) l.loop-j.piece) done l.loop-j.invariant.3)
+    (λ p. refl)

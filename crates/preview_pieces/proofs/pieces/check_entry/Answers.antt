@@ -1,0 +1,12 @@
+-- `pieces::check_entry` meets its contract: refusals 1 and 2 come first.
+use Rattle.group.proofs.Refusals.{passed_on, went_on}
+use Rattle.preview_pieces.specs.Calls.{rank_refusal, preview_entry_refusal}
+use Rattle.preview_pieces.proofs.pieces.check_entry.Goals as goal
+
+pub returns-in-Refused : goal.returns-in-Refused
+unfolding preview_entry_refusal
+returns-in-Refused c = passed_on _ _ _ _ c.in-Refused.is c.group.ensures
+
+pub returns-in-Fine : goal.returns-in-Fine
+unfolding preview_entry_refusal rank_refusal
+returns-in-Fine c = went_on _ _ _ _ c.in-Fine.is c.group.ensures c.one_of.ensures
