@@ -1,4 +1,6 @@
 // Run addition: the letters of one run added into another, the inner loop of nearly everything.
+#![tactic(auto)]
+
 pub mod eights;
 
 ghost use Rattle.std.specs.Prelude.{◌≡◌, ◌+◌, ◌≤◌, length};

@@ -1,4 +1,6 @@
 // Lists of ids: how many there are, in range, strictly falling, and whether a node is among them.
+#![tactic(auto)]
+
 ghost use Rattle.std.specs.Prelude.{◌≡◌};
 ghost use Rattle.group.specs.Answers.{check_number};
 ghost use Rattle.ids.specs.Ids.{ids_refusal, all_in_range, falling, among};

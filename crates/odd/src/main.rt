@@ -6,8 +6,9 @@
 ghost use Rattle.std.specs.Prelude.{◌≡◌, ◌≤◌, length};
 
 use heads::Head;
-use odd_files::looking;
+use odd_files::{input, looking};
 use odd_letters::{fitting, gathering};
+use std::rt::{Env, Files};
 
 // The ids are as many as were gathered. (More than sixteen there never are; that needn't be proved.)
 fn ids_among(nodes: usize) -> usize
@@ -18,6 +19,7 @@ fn ids_among(nodes: usize) -> usize
 
 // Asks the library, and tells what it finds. Of `packets` the letters up to `end` count.
 fn ask(
+    env: &impl Env,
     head: Head,
     files: &[usize; 17],
     ids: &[usize],
@@ -27,28 +29,40 @@ fn ask(
 ) {
     let letters = lines::part(packets, 0, end);
     let room = lines::part_mut(file, 0, lines::value(lengths::file_letters(head.group)));
-    odd_words::tell(head, files, odd_one::find(head.group, ids, letters, room));
+    odd_words::tell(
+        env,
+        head,
+        files,
+        odd_one::find(head.group, ids, letters, room),
+    );
 }
 
 // Compares the shares of a batch: gathers their letters, and asks.
-fn compare(head: Head, files: &[usize; 17], bytes: &mut [u8], packets: &mut [u8], file: &mut [u8]) {
+fn compare(
+    rt: &(impl Env + Files),
+    head: Head,
+    files: &[usize; 17],
+    bytes: &mut [u8],
+    packets: &mut [u8],
+    file: &mut [u8],
+) {
     let mut ids = [0usize; 16];
-    let all = gathering::gather(head, files, bytes, packets, &mut ids);
+    let all = gathering::gather(rt, head, files, bytes, packets, &mut ids);
     if !all.failed {
         let count = ids_among(all.nodes);
-        ask(head, files, &ids[..count], packets, all.end, file);
+        ask(rt, head, files, &ids[..count], packets, all.end, file);
     }
 }
 
 // Looks at all files, and compares them where nothing is in the way.
-fn answer(bytes: &mut [u8], packets: &mut [u8], file: &mut [u8]) {
+fn answer(rt: &(impl Env + Files), bytes: &mut [u8], packets: &mut [u8], file: &mut [u8]) {
     let mut files = [0usize; 17];
-    let seen = looking::look_all(&mut files, bytes);
+    let seen = looking::look_all(rt, &mut files, bytes);
     if seen.wrong {
         return;
     }
     if fitting::fits(seen.head, &files, packets.len(), file.len()) {
-        compare(seen.head, &files, bytes, packets, file);
+        compare(rt, seen.head, &files, bytes, packets, file);
     }
 }
 
@@ -72,13 +86,13 @@ fn room_for_file() -> [u8; 2457600]
     [0; 2457600]
 }
 
-fn main() {
-    if os::arg_count() < 2 {
+fn main(rt: HostRuntime) {
+    if input::arg_count(&rt) < 2 {
         odd_problems::no_files();
         return;
     }
     let mut bytes = room_for_share();
     let mut packets = room_for_packets();
     let mut file = room_for_file();
-    answer(&mut bytes, &mut packets, &mut file);
+    answer(&rt, &mut bytes, &mut packets, &mut file);
 }

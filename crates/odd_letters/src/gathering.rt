@@ -2,6 +2,7 @@
 use heads::{Head, bytes as head_bytes};
 use odd_files::{batch, input, table};
 use share::Judgment;
+use std::rt::{Env, Files};
 
 // So many nodes are gathered, and their letters end here; or a file stood in the way.
 #[derive(Clone, Copy)]
@@ -29,14 +30,20 @@ fn is_of(judgment: Judgment, head: Head) -> bool {
 }
 
 // Reads the letters of the share with this head into `room`; false where the file has another share now, or none.
-fn read(nth: usize, head: Head, bytes: &mut [u8], room: &mut [u8]) -> bool {
-    let input = input::read(nth, bytes);
+fn read(
+    rt: &(impl Env + Files),
+    nth: usize,
+    head: Head,
+    bytes: &mut [u8],
+    room: &mut [u8],
+) -> bool {
+    let input = input::read(rt, nth, bytes);
     if input.failed {
         return false;
     }
     let judgment = share::read(lines::part(bytes, 0, input.count), room);
     if !is_of(judgment, head) {
-        odd_problems::changed(nth);
+        odd_problems::changed(rt, nth);
         return false;
     }
     true
@@ -51,6 +58,7 @@ fn keep_id(ids: &mut [usize], at: usize, node: usize) {
 
 // Puts a node's letters behind those gathered so far, if it has a file.
 fn add(
+    rt: &(impl Env + Files),
     so_far: Gathered,
     nth: usize,
     head: Head,
@@ -63,7 +71,7 @@ fn add(
     }
     let count = head_bytes::total(head);
     let room = lines::part_mut(packets, so_far.end, count);
-    if !read(nth, head, bytes, room) {
+    if !read(rt, nth, head, bytes, room) {
         return stopped(so_far);
     }
     keep_id(ids, so_far.nodes, head.node);
@@ -76,6 +84,7 @@ fn add(
 
 // All nodes that have a file.
 pub fn gather(
+    rt: &(impl Env + Files),
     head: Head,
     files: &[usize; 17],
     bytes: &mut [u8],
@@ -91,7 +100,7 @@ pub fn gather(
     while node > 0 {
         let nth = table::of_node(files, node);
         let own = batch::head_of(head, node);
-        so_far = add(so_far, nth, own, bytes, packets, ids);
+        so_far = add(rt, so_far, nth, own, bytes, packets, ids);
         node -= 1;
     }
     so_far

@@ -6,20 +6,25 @@ pub mod saying;
 
 use group::Group;
 use heads::Head;
-use libc::STDERR_FILENO;
+use std::fmt::InlineText;
+use std::io::Error;
+use std::rt::Env;
+
+// Standard error's descriptor.
+const STDERR: i32 = 2;
 
 fn say(words: &[u8]) {
-    saying::say(STDERR_FILENO, words);
+    saying::say(STDERR, words);
 }
 
 fn number(words: &[u8], n: usize) {
-    saying::number(STDERR_FILENO, words, n);
+    saying::number(STDERR, words, n);
 }
 
 // The beginning of a line on a file: `odd: a.share: `.
-fn on(nth: usize) {
+fn on(env: &impl Env, nth: usize) {
     say(b"odd: ");
-    saying::name(STDERR_FILENO, nth);
+    saying::name(env, STDERR, nth);
     say(b": ");
 }
 
@@ -33,57 +38,75 @@ pub fn long_name(nth: usize) {
     say(b" is too long for the name of a file: at most 4095 bytes\n");
 }
 
-// A file that can't be opened or read: why, as errno says it, which must still stand.
-pub fn unread(path: &[u8]) {
-    say(b"odd: ");
-    os::fail(path);
+// What an error says, without the number of the system's error, which stands behind that.
+fn without_number(text: &str) -> &str {
+    match text.split_once(" (os error ") {
+        Some((words, _)) => words,
+        None => text,
+    }
 }
 
-pub fn long_file(nth: usize, most: usize) {
-    on(nth);
+// A file that can't be opened or read: why, as the system says it.
+pub fn unread(path: &[u8], error: Error) {
+    say(b"odd: ");
+    say(path);
+    say(b": ");
+    let text = InlineText::<128>::of(error);
+    say(without_number(text.as_str()).as_bytes());
+    say(b"\n");
+}
+
+// A file whose name isn't text. What opens files takes no other name.
+pub fn other_name(env: &impl Env, nth: usize) {
+    on(env, nth);
+    say(b"its name is not in UTF-8, and this program opens no other: give the file another name\n");
+}
+
+pub fn long_file(env: &impl Env, nth: usize, most: usize) {
+    on(env, nth);
     number(b"too long for this program, which takes ", most);
     say(b" bytes: the library's call takes it\n");
 }
 
-pub fn cut(nth: usize) {
-    on(nth);
+pub fn cut(env: &impl Env, nth: usize) {
+    on(env, nth);
     say(b"unfinished, the beginning of a share and not all of it: copy it anew, or leave it out\n");
 }
 
 // As the judge says it.
-pub fn malformed(nth: usize, what: usize, at: usize) {
-    on(nth);
+pub fn malformed(env: &impl Env, nth: usize, what: usize, at: usize) {
+    on(env, nth);
     number(b"malformed ", what);
     number(b" at ", at);
     say(b", so no share: copy it anew, or leave it out\n");
 }
 
-pub fn of_previews(nth: usize) {
-    on(nth);
+pub fn of_previews(env: &impl Env, nth: usize) {
+    on(env, nth);
     say(b"a share of previews: leave it out, this compares batches of the repairing code\n");
 }
 
 // A share of another group or batch than the first one.
-pub fn other_batch(nth: usize, head: Head, first: usize, other: Head) {
-    on(nth);
-    saying::batch(STDERR_FILENO, head);
+pub fn other_batch(env: &impl Env, nth: usize, head: Head, first: usize, other: Head) {
+    on(env, nth);
+    saying::batch(STDERR, head);
     say(b", but ");
-    saying::name(STDERR_FILENO, first);
+    saying::name(env, STDERR, first);
     rest_of_other(other);
 }
 
 fn rest_of_other(other: Head) {
     say(b" is of ");
-    saying::batch(STDERR_FILENO, other);
+    saying::batch(STDERR, other);
     say(b": give shares of one batch\n");
 }
 
 // A share of a node that another file is of.
-pub fn same_node(nth: usize, node: usize, earlier: usize) {
-    on(nth);
+pub fn same_node(env: &impl Env, nth: usize, node: usize, earlier: usize) {
+    on(env, nth);
     number(b"node ", node);
     say(b" again, after ");
-    saying::name(STDERR_FILENO, earlier);
+    saying::name(env, STDERR, earlier);
     say(b": give one share of each node\n");
 }
 
@@ -107,7 +130,7 @@ pub fn never_enough(g: Group) {
     say(b"odd: it needs ");
     wanted(g.k);
     say(b", and ");
-    saying::group(STDERR_FILENO, g.n, g.k, g.d);
+    saying::group(STDERR, g.n, g.k, g.d);
     number(b"] never has more than ", g.n);
     say(b"\n");
 }
@@ -119,8 +142,8 @@ pub fn long_batch(most: usize) {
 }
 
 // A file that isn't the share any more that it was when it was looked at first.
-pub fn changed(nth: usize) {
-    on(nth);
+pub fn changed(env: &impl Env, nth: usize) {
+    on(env, nth);
     say(
         b"not the share any more that it was a moment ago: each is read twice, so give files that stay as they are\n",
     );

@@ -1,5 +1,6 @@
 // Words, numbers and names of files, on the descriptor `to`: standard output or standard error.
 use heads::Head;
+use std::rt::Env;
 
 // Writes these words.
 pub fn say(to: i32, words: &[u8]) {
@@ -13,9 +14,9 @@ pub fn number(to: i32, words: &[u8], n: usize) {
 }
 
 // The name of a file: the argument with this number.
-pub fn name(to: i32, nth: usize) {
+pub fn name(env: &impl Env, to: i32, nth: usize) {
     let mut path = io::buffer();
-    let count = os::arg(nth, &mut path);
+    let count = env.arg(nth, &mut path).unwrap_or(0);
     say(to, &path[..count]);
 }
 

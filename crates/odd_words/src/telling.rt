@@ -2,8 +2,9 @@
 use crate::{answers, places};
 use group::Check;
 use heads::Head;
-use odd_files::{batch, table};
+use odd_files::{batch, input, table};
 use odd_one::{Report, Standing};
+use std::rt::Env;
 
 // What the lines so far come to.
 #[derive(Clone, Copy)]
@@ -27,33 +28,39 @@ fn standing_of(report: Report, node: usize) -> Standing {
 }
 
 // The line of a file, whose share has this head.
-fn tell_file(outcome: Outcome, nth: usize, head: Head, standing: Standing) -> Outcome {
+fn tell_file(
+    env: &impl Env,
+    outcome: Outcome,
+    nth: usize,
+    head: Head,
+    standing: Standing,
+) -> Outcome {
     match standing {
         Standing::Absent => outcome,
         Standing::Agreeing => {
-            answers::agrees(nth, head.node);
+            answers::agrees(env, nth, head.node);
             outcome
         }
         Standing::Unknown => {
-            answers::unknown(nth, head.node);
+            answers::unknown(env, nth, head.node);
             Outcome::SeveralAreWrong
         }
         Standing::Odd(place) => {
-            answers::odd(nth, head.node, places::of(head, place));
+            answers::odd(env, nth, head.node, places::of(head, place));
             Outcome::OneIsOdd(head.node)
         }
     }
 }
 
 // The lines of all files.
-fn tell_files(head: Head, files: &[usize; 17], report: Report) -> Outcome {
-    let end = os::arg_count();
+fn tell_files(env: &impl Env, head: Head, files: &[usize; 17], report: Report) -> Outcome {
+    let end = input::arg_count(env);
     let mut outcome = Outcome::AllAgree;
     let mut nth = 1;
     while nth < end {
         let node = table::node_in(files, nth);
         let standing = standing_of(report, node);
-        outcome = tell_file(outcome, nth, batch::head_of(head, node), standing);
+        outcome = tell_file(env, outcome, nth, batch::head_of(head, node), standing);
         nth += 1;
     }
     outcome
@@ -69,12 +76,12 @@ fn tell_outcome(outcome: Outcome, nodes: usize) {
 }
 
 // All lines. A refusal is said, and nothing else.
-pub fn tell(head: Head, files: &[usize; 17], report: Report) {
+pub fn tell(env: &impl Env, head: Head, files: &[usize; 17], report: Report) {
     let check = report.check;
     match check {
         Check::Refused(refusal) => odd_problems::refused(group::refusal_number(refusal)),
         Check::Fine => {
-            let outcome = tell_files(head, files, report);
+            let outcome = tell_files(env, head, files, report);
             tell_outcome(outcome, table::count(files));
         }
     }

@@ -21,6 +21,7 @@ use Rattle.agreement.proofs.Handed.{letters_more}
 module _ (g : Group) (ids : List ℕ) (c : Chosen g (length ids) ids) where
   -- they fall, so that the id of rank v has v - 1 above it
   room_above : (v : ℕ) → 1 ≤ v → v ≤ length ids → ranked ids v + v ≤ g.n + 1
+  room_above zero lo hi = elim lo [ ]
   room_above (suc zero) lo hi = omega (arith, c.nodes.known 1 (omega arith) hi)
   room_above (suc (suc v)) lo hi =
       omega (arith, room_above (suc v) (omega arith) (omega arith), c.nodes.falling.falls (suc v) (suc (suc v)) (omega arith) (omega arith) hi)

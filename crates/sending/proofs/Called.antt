@@ -32,9 +32,9 @@ of_place g rank column f =
     simp (le-leb 1 rank f.row, le-leb rank g.k f.upper, le-leb rank column f.within, le-leb column g.d f.column)
 
 -- and so of the whole check of an entry
-pub entry_of : (g : Group) (rank column : ℕ) → entry_refusal g rank column ≡ 0 → Free g rank column
+pub entry_of_lem : (g : Group) (rank column : ℕ) → entry_refusal g rank column ≡ 0 → Free g rank column
 unfolding entry_refusal
-entry_of g rank column e =
+entry_of_lem g rank column e =
     let w = first_none (group_refusal g) (place_refusal g rank column) e in
     place_of g rank column (in_range g w.0) w.1
 

@@ -24,8 +24,8 @@ use Rattle.sequences.proofs.PutBack.{back, back_length, back_before, back_inside
 use Rattle.sequences.proofs.Summing.{part_adds}
 
 -- the code counts from 0
-start_of : (starts : List ℕ) (u : ℕ) → get_or starts u 0 ≡ run_start starts (u + 1)
-start_of starts u = ap (λ i. get_or starts i 0) back_one
+start_of_lem : (starts : List ℕ) (u : ℕ) → get_or starts u 0 ≡ run_start starts (u + 1)
+start_of_lem starts u = ap (λ i. get_or starts i 0) back_one
   where
     back_one : u ≡ u + 1 - 1
     back_one = omega arith
@@ -38,7 +38,7 @@ pub run_seen :
 unfolding run_letter
 run_seen from starts leads n size skip u before after r h seen =
     part_adds from (run_letter from starts size (u + 1)) (get_or starts u 0) size (get_or starts u 0 + size) skip (get_or leads u 0) (run_start leads (u + 1)) before after
-    (fits_at starts n size (length from) r.inside u h) refl (start_of leads u) (λ p. ap (λ i. letter 0 from i size p) (start_of starts u)) seen
+    (fits_at starts n size (length from) r.inside u h) refl (start_of_lem leads u) (λ p. ap (λ i. letter 0 from i size p) (start_of_lem starts u)) seen
 
 module _ (from starts leads seen : List ℕ) (n size skip count : ℕ) (r : MovedRuns starts leads n size (length from)) (all : AllSeen leads n size skip 0 count)
     (later : (u : ℕ) → u < n → get_or seen u 0 ≡ get_or starts u 0 + (skip - get_or leads u 0)) where
@@ -131,7 +131,7 @@ moved_as n m skip shift shift' x y buffer shifts letters zeros s =
 
 -- no run is moved past the window's start, where all are seen from its start on
 pub leads_at : (leads : List ℕ) (n size skip count : ℕ) → AllSeen leads n size skip 0 count → (u : ℕ) → u < n → get_or leads u 0 ≤ skip
-leads_at leads n size skip count all u h = omega (arith, all.begun (u + 1) (omega arith) (omega arith), start_of leads u)
+leads_at leads n size skip count all u h = omega (arith, all.begun (u + 1) (omega arith) (omega arith), start_of_lem leads u)
 
 -- so it can be told where each is seen from
 pub seen_from :

@@ -84,10 +84,10 @@ seen_window run into after behind count end h c e is =
     (seen_part run behind 0 into 0 behind count (omega arith) (inl refl) (omega arith) (λ q l a p. omega arith))
 
 -- what a window sees of a run that starts further on
-pub seen_at :
+pub seen_at_lem :
     (run into after : List ℕ) (ahead count : ℕ) → ahead < length into → count ≡ min (length into - ahead) (length run)
     → after ≡ added xors into ahead (take (count - 0) (drop 0 run)) → Seen run 0 ahead into after
-seen_at run into after ahead count h c is =
+seen_at_lem run into after ahead count h c is =
     let size : count - 0 ≡ count = omega arith in
     subst (λ xs. Seen run 0 ahead into xs) (sym (is ∙ ap (λ n. added xors into ahead (take n (drop 0 run))) size))
     (seen_part run 0 ahead into ahead 0 count (omega arith) (inr refl) (omega arith) (λ q l a p. omega arith))

@@ -1,4 +1,6 @@
 // The shift of each node and column: how many places to the right a node moves the sequences of a column.
+#![tactic(auto)]
+
 mod table;
 
 ghost use Rattle.std.specs.Prelude.{◌≡◌, ◌≤◌};

@@ -19,5 +19,8 @@ pub returns : goal.returns
 returns c =
     let a = c.args in
     let s = c in
-    let lent = take (length a.run.now - 0) a.run.now in record { letters = added_whole xors a.into.now _ _ a.at lent _ (in_run _ _ _ s.add_rests-i.ensures.count) s.add_rests-i.ensures.letters c.add_blocks.ensures
-          ∙ ap (added xors a.into.now a.at) (itself a.run.now); count = ap length (itself a.run.now) }
+    let lent = take (length a.run.now - 0) a.run.now in record {
+      letters = added_whole xors a.into.now _ _ a.at lent _ (in_run _ _ _ s.add_rests-i.ensures.count) s.add_rests-i.ensures.letters c.add_blocks.ensures
+          ∙ ap (added xors a.into.now a.at) (itself a.run.now);
+      count = ap length (itself a.run.now);
+    }

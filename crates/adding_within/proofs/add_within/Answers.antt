@@ -30,6 +30,9 @@ returns c =
     let fits = entry.requires.1 in
     let inside = in_run _ _ _ s.add_rests-i.ensures.count in
     let all : i + (a.count - i) ≡ a.count = omega (arith, inside) in
-    let first = begun a.buffer.now a.to a.from a.count apart fits _ i inside s.add_rests-i.ensures.letters in record { letters = then a.buffer.now a.to a.from a.count apart fits _ _ i (a.count - i) (omega (arith, all)) first c.add_blocks.ensures
+    let first = begun a.buffer.now a.to a.from a.count apart fits _ i inside s.add_rests-i.ensures.letters in record {
+      letters = then a.buffer.now a.to a.from a.count apart fits _ _ i (a.count - i) (omega (arith, all)) first c.add_blocks.ensures
           ∙ ap (after a.buffer.now a.to a.from a.count) all
-          ∙ whole a.buffer.now a.to a.from a.count apart fits; count = refl }
+          ∙ whole a.buffer.now a.to a.from a.count apart fits;
+      count = refl;
+    }

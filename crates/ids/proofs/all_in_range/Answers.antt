@@ -1,6 +1,5 @@
 -- `checks::all_in_range` meets its contract: after i turns, what is left of the ids decides.
 use mathlib.Core.Path.{refl, sym, ap, ◌∙◌}
-use Prim.Native.Nat.{◌-◌}
 use Rattle.ids.specs.Ids.{all_in_range}
 use Rattle.ids.proofs.Ids.{all_next, none_left}
 use Rattle.letters.proofs.Places.{both_no}
@@ -24,11 +23,11 @@ returns-then-n-ids c =
 pub loop-i-preserved : goal.loop-i-preserved
 loop-i-preserved c =
     let s = c in (
-  omega arith,
-  s.loop-i.invariant.1
-      ∙ all_next _ _ s.loop-i.i (omega arith)
-      ∙ simp (le-leb _ _ c.if-ids-i-lt1.false, le-leb _ _ c.if-n-ids.false),
-)
+      omega arith,
+      s.loop-i.invariant.1
+          ∙ all_next _ _ s.loop-i.i (omega arith)
+          ∙ simp (le-leb _ _ c.if-ids-i-lt1.false, le-leb _ _ c.if-n-ids.false),
+    )
 
 pub returns : goal.returns
 unfolding all_in_range

@@ -1,6 +1,5 @@
 -- `checks::is_among` meets its contract: after i turns, what is left of the ids decides.
 use mathlib.Core.Path.{refl, sym, ap, ◌∙◌}
-use Prim.Native.Nat.{◌-◌}
 use Rattle.ids.specs.Ids.{among}
 use Rattle.ids.proofs.Ids.{among_next, none_left}
 use borrow.Author.Tests.{eq-eqb, ne_eqb}
@@ -18,11 +17,11 @@ returns-then-ids-i c =
 pub loop-i-preserved : goal.loop-i-preserved
 loop-i-preserved c =
     let s = c in (
-  omega arith,
-  s.loop-i.invariant.1
-      ∙ among_next _ _ s.loop-i.i (omega arith)
-      ∙ simp (ne_eqb _ _ c.if-ids-i.false),
-)
+      omega arith,
+      s.loop-i.invariant.1
+          ∙ among_next _ _ s.loop-i.i (omega arith)
+          ∙ simp (ne_eqb _ _ c.if-ids-i.false),
+    )
 
 pub returns : goal.returns
 unfolding among

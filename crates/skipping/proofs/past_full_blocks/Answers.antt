@@ -1,7 +1,6 @@
 -- `skipping::past_full_blocks` meets its contract: every block passed is begun within the bytes, one of the full blocks, and has its kind.
 use mathlib.Core.Logic.{⊎_elim}
 use mathlib.Core.Path.{◌≡◌}
-use Prim.Native.Nat.{◌-◌}
 use native.Mathlib.Omega.{arith}
 use Rattle.letters.proofs.Cases.{le_or_lt}
 use Rattle.skipping.proofs.SteppedOver.{no_blocks, blocks_reach}

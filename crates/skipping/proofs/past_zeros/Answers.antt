@@ -1,7 +1,6 @@
 -- `skipping::past_zeros` meets its contract: every byte passed is zero.
 use mathlib.Core.Path.{◌≡◌}
 use mathlib.Core.Logic.{⊎_elim}
-use Prim.Native.Nat.{◌-◌}
 use native.Mathlib.Omega.{arith}
 use Rattle.letters.proofs.Cases.{le_or_lt}
 use Rattle.skipping.proofs.past_zeros.Goals as goal

@@ -1,6 +1,5 @@
 -- `eights::add_letters` meets its contract: after i turns the first i letters of the run are in.
 use mathlib.Core.Path.{◌≡◌, refl, sym, ◌∙◌}
-use Prim.Native.Nat.{◌-◌}
 use native.Mathlib.Omega.{arith}
 use lib.ListN.{drop, length-set, length-drop}
 use lib.Seq.{get_or-drop}

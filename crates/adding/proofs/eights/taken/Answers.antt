@@ -1,6 +1,5 @@
 -- `eights::taken` meets its contract: after j turns the first j letters are taken.
 use mathlib.Core.Path.{◌≡◌, refl, sym, ◌∙◌}
-use Prim.Native.Nat.{◌-◌}
 use native.Mathlib.Numerals.{add-one}
 use native.Mathlib.Omega.{arith}
 use lib.ListN.{drop, length-set, length-drop}

@@ -1,6 +1,5 @@
 -- `blocks::add_blocks` meets its contract: after every turn the first i letters of the later run are in, which are whole blocks.
 use mathlib.Core.Path.{◌≡◌, refl, sym, ap, ◌∙◌}
-use Prim.Native.Nat.{◌-◌}
 use native.Mathlib.Omega.{arith}
 use borrow.Author.Rules.{rules}
 use Rattle.letters.specs.Algebra.{xors}

@@ -1,6 +1,5 @@
 -- `blocks::add_letters` meets its contract: after i turns the first i letters of the later run are in.
 use mathlib.Core.Path.{◌≡◌, refl, sym, ◌∙◌}
-use Prim.Native.Nat.{◌-◌}
 use native.Mathlib.Omega.{arith}
 use lib.ListN.{length-set}
 use Rattle.letters.specs.Algebra.{xors}

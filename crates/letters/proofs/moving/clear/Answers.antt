@@ -1,6 +1,5 @@
 -- `moving::clear` meets its contract: after each turn one zero more is laid.
 use mathlib.Core.Path.{refl}
-use Prim.Native.Nat.{◌-◌}
 use native.Mathlib.Omega.{arith}
 use Rattle.letters.proofs.Laying.{nothing_laid, laid_one, laid_until}
 use Rattle.letters.proofs.moving.clear.Goals as goal

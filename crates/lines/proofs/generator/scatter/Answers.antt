@@ -1,5 +1,4 @@
 -- `generator::scatter` is safe: the index stays within the slice, whose length is kept.
-use Prim.Native.Nat.{◌-◌}
 use lib.ListN.{length-set}
 use native.Mathlib.Omega.{arith}
 use Rattle.lines.proofs.generator.scatter.Goals as goal

@@ -1,5 +1,4 @@
 -- `parts::count` is safe: the count stays below the index, and the index within the slice.
-use Prim.Native.Nat.{◌-◌}
 use native.Mathlib.Omega.{arith}
 use Rattle.lines.proofs.parts.count.Goals as goal
 

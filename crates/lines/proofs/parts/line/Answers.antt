@@ -1,5 +1,4 @@
 -- `parts::line` is safe: the line starts before the index, which stays within the text.
-use Prim.Native.Nat.{◌-◌}
 use native.Mathlib.Omega.{arith}
 use Rattle.lines.proofs.parts.line.Goals as goal
 

@@ -1,5 +1,4 @@
 -- `parts::put` is safe: the index stays within the run and the room for it, and each letter keeps the length.
-use Prim.Native.Nat.{◌-◌}
 use lib.ListN.{length-set}
 use native.Mathlib.Omega.{arith}
 use Rattle.lines.proofs.parts.put.Goals as goal

@@ -1,5 +1,4 @@
 -- `parts::put_numbers` is safe: the index stays within the slice, whose length is kept.
-use Prim.Native.Nat.{◌-◌}
 use lib.ListN.{length-set}
 use native.Mathlib.Omega.{arith}
 use Rattle.lines.proofs.parts.put_numbers.Goals as goal

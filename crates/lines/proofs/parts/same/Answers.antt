@@ -1,5 +1,4 @@
 -- `parts::same` is safe: the index stays within the slices, which are as long.
-use Prim.Native.Nat.{◌-◌}
 use native.Mathlib.Omega.{arith}
 use Rattle.lines.proofs.parts.same.Goals as goal
 

@@ -1,0 +1,13 @@
+-- `dulvaspen_odd` meets its contract: a refused call returns its number, and another one tells.
+use Rattle.group.proofs.Refusals.{fine, stopped}
+use Rattle.c_odd.proofs.Names.{refused_for, told_for}
+use Rattle.c_odd.proofs.dulvaspen_odd.Goals as goal
+
+pub tell-requires : goal.tell-requires
+tell-requires c = fine _ _ c.in-Fine.is c.check.ensures
+
+pub returns-in-Refused : goal.returns-in-Refused
+returns-in-Refused c = refused_for _ _ c.of-g.ensures _ _ _ _ c.in-Refused.refusal _ (stopped _ _ _ c.in-Refused.is c.check.ensures) c.refusal_number.ensures
+
+pub returns-in-Fine : goal.returns-in-Fine
+returns-in-Fine c = told_for _ _ c.of-g.ensures c.args.ids.now c.args.packets.now c.args.file.now c.args.report.now _ _ _ (fine _ _ c.in-Fine.is c.check.ensures) c.tell.ensures

@@ -1,0 +1,6 @@
+-- `dulvaspen_repair` meets its contract: it tells the answer of the call behind it.
+use Rattle.c_answers.proofs.Told.{solves_told_of}
+use Rattle.c_recovery.proofs.dulvaspen_repair.Goals as goal
+
+pub returns : goal.returns
+returns c = rw c.of-g.ensures at (solves_told_of _ _ _ _ _ _ _ _ _ c.repair.ensures c.tell.ensures.0 c.tell.ensures.1)

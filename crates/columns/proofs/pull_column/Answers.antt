@@ -1,0 +1,36 @@
+-- `pull_column` meets its contract: after each turn one entry more is done, and past column k there is nothing to do.
+use mathlib.Core.Path.{◌≡◌, subst, ◌∙◌}
+use Prim.Native.Nat.{min}
+use native.Mathlib.Omega.{arith}
+use Rattle.columns.specs.Steps.Columns.{Pulled}
+use Rattle.columns.proofs.Entries.{pull_none, pull_next, pull_corner}
+use Rattle.columns.proofs.pull_column.Goals as goal
+
+pub returns-then-g-v : goal.returns-then-g-v
+returns-then-g-v c = pull_corner _ _ _ _ _ c.if-g-v.true
+
+pub loop-w-init : goal.loop-w-init
+loop-w-init c = (omega arith, pull_none _ _ _ _)
+
+pub pull_entry-requires : goal.pull_entry-requires
+pull_entry-requires c =
+    let s = c in
+    let l = c.loop-w in
+    (record { chosen = s.requires.0.chosen; shifts = s.requires.1; row = omega arith; upper = omega arith; low = omega arith }, l.invariant.1.same_length ∙ s.requires.0.long)
+
+pub loop-w-preserved : goal.loop-w-preserved
+loop-w-preserved c =
+    let l = c.loop-w in (
+      omega arith,
+      pull_next _ _ _ _ l.w _ _ (omega arith) (omega arith) (omega arith) l.invariant.1 c.pull_entry.ensures,
+    )
+
+pub shape_of-buffer : goal.shape_of-buffer
+shape_of-buffer c = c.loop-w.invariant.1.same_length
+
+pub returns : goal.returns
+returns c =
+    let l = c.loop-w in
+    let s = c in
+    let done : l.w ≡ min s.args.v s.args.g.k = omega arith in
+    subst (λ m. Pulled s.args.g s.args.ids.now s.args.v m s.args.buffer.now l.buffer) done l.invariant.1

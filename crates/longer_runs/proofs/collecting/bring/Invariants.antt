@@ -1,0 +1,11 @@
+-- `collecting::bring` is safe: there are no more than fifteen columns.
+use mathlib.Core.Path.{◌≡◌}
+use Prim.Native.Nat.{◌-◌}
+use lib.ListN.{length}
+use Rattle.longer_runs.proofs.collecting.bring.Given as goal
+
+abbrev pub invariant-loop-column : goal.invariant-loop-column
+invariant-loop-column l = length l.a ≡ length l.initial.a
+
+abbrev pub decreases-loop-column : goal.decreases-loop-column
+decreases-loop-column l = 16 - l.column

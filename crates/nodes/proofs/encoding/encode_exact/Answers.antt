@@ -1,0 +1,33 @@
+-- `encoding::encode_exact` meets its contract: both lengths are right, or the refusal is passed on.
+use native.Mathlib.Omega.{arith}
+use mathlib.Core.Path.{refl, ◌∙◌}
+use Rattle.group.proofs.InRange.{of_node}
+use Rattle.group.proofs.Refusals.{exact_lengths, stopped, fine}
+use Rattle.lengths.proofs.Sizes.{node_at_most}
+use Rattle.nodes.specs.Calls.{encode_refusal}
+use Rattle.group.proofs.Called.{call_refused, call_fine, lengths_after}
+use Rattle.matrix.proofs.Product.{wide_packet, wide_node}
+use Rattle.nodes.proofs.encoding.encode_exact.Goals as goal
+
+pub overflow_mul-g : goal.overflow_mul-g
+overflow_mul-g c =
+    let s = c in
+    omega (arith, node_at_most s.args.g s.args.node s.requires, wide_node s.args.g s.args.node _ c.widened_in-size.ensures.0)
+
+pub encode_packets-requires : goal.encode_packets-requires
+encode_packets-requires c =
+    let s = c in
+    let w = exact_lengths _ _ _ _ (fine _ _ c.in-Fine.is c.lengths.ensures) in
+    record { table = c.all-table.ensures; node = (s.requires, wide_packet s.args.g s.args.node _ c.widened_in-size.ensures.0); lengths = (w.0 ∙ c.file-wanted_file.ensures, w.1 ∙ wide_node s.args.g s.args.node _ c.widened_in-size.ensures.0) }
+
+pub returns-in-Refused : goal.returns-in-Refused
+unfolding encode_refusal
+returns-in-Refused c =
+    let s = c in
+    call_refused _ _ _ _ _ (stopped _ _ _ c.in-Refused.is (c.lengths.ensures ∙ lengths_after _ _ _ _ _ _ _ (of_node _ _ s.requires) c.file-wanted_file.ensures (wide_node s.args.g s.args.node _ c.widened_in-size.ensures.0)))
+
+pub returns-in-Fine : goal.returns-in-Fine
+unfolding encode_refusal
+returns-in-Fine c =
+    let s = c in
+    call_fine _ _ _ _ _ _ (fine _ _ c.in-Fine.is (c.lengths.ensures ∙ lengths_after _ _ _ _ _ _ _ (of_node _ _ s.requires) c.file-wanted_file.ensures (wide_node s.args.g s.args.node _ c.widened_in-size.ensures.0))) refl c.encode_packets.ensures

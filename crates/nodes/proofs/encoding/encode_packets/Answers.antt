@@ -1,0 +1,14 @@
+-- `encoding::encode_packets` meets its contract: both ways leave the product.
+use native.Mathlib.Omega.{arith}
+use Rattle.lengths.specs.Lengths.{packet_length}
+use Rattle.lengths.proofs.Sizes.{node_at_most, packet_fits}
+use Rattle.nodes.proofs.encoding.encode_packets.Goals as goal
+
+pub overflow_sub-widest : goal.overflow_sub-widest
+unfolding packet_length
+overflow_sub-widest c = omega arith
+
+pub overflow_add-widest : goal.overflow_add-widest
+overflow_add-widest c =
+    let s = c in
+    omega (arith, node_at_most s.args.g s.args.node s.requires.node.0, packet_fits s.args.g s.args.node s.requires.node.0 1 (omega arith) (omega arith), s.requires.node.1)
