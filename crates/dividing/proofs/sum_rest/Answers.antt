@@ -40,5 +40,8 @@ pub returns : goal.returns
 returns c =
     let s = c in
     let a = s.args in
-    let fits = block_fits a.count a.width a.i (omega arith) s.requires.lengths.0 (omega arith) in record { letters = summed_block a.part.now _ (a.to + a.i) (a.from + a.i) a.width (a.to + (a.i + a.width)) (a.to - a.from) (omega arith) (omega arith)
-          (omega arith) (omega (arith, fits)) c.add_block.ensures; count = (omega arith, one_block a.count a.width a.i (omega arith) s.requires.lengths.0 (omega arith)) }
+    let fits = block_fits a.count a.width a.i (omega arith) s.requires.lengths.0 (omega arith) in record {
+      letters = summed_block a.part.now _ (a.to + a.i) (a.from + a.i) a.width (a.to + (a.i + a.width)) (a.to - a.from) (omega arith) (omega arith)
+          (omega arith) (omega (arith, fits)) c.add_block.ensures;
+      count = (omega arith, one_block a.count a.width a.i (omega arith) s.requires.lengths.0 (omega arith));
+    }

@@ -12,9 +12,14 @@ overflow_add-front c =
 
 pub lay_packets-requires : goal.lay_packets-requires
 lay_packets-requires c =
-    let s = c in record { table = s.requires.table; helper = s.requires.helper; lengths = s.requires.lengths; middle = record {
+    let s = c in record {
+      table = s.requires.table;
+      helper = s.requires.helper;
+      lengths = s.requires.lengths;
+      middle = record {
         order = omega arith;
         begun = omega (arith, c.past-front.ensures, c.shift_in.ensures, c.shift_in-skip.ensures);
         going = omega (arith, c.lesser-back.ensures, c.past.ensures, c.shift_in-skip.ensures);
         ends = omega (arith, c.lesser-back.ensures);
-      } }
+      };
+    }

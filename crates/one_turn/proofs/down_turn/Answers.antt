@@ -13,8 +13,7 @@ pub lag-requires : goal.lag-requires
 lag-requires c = (tables_fewer _ _ _ _ (omega arith) c.requires.tables.0, omega arith, omega arith)
 
 pub add_earlier-requires : goal.add_earlier-requires
-add_earlier-requires c =
-    (
+add_earlier-requires c = (
   omega (
     arith,
     c.requires.runs.order
@@ -35,8 +34,7 @@ overflow_sub-exps c =
     )
 
 pub sum_up-requires : goal.sum_up-requires
-sum_up-requires c =
-    (
+sum_up-requires c = (
   omega (
     arith,
     exponents_apart _
@@ -53,8 +51,7 @@ sum_up-requires c =
 )
 
 pub loop-b-preserved : goal.loop-b-preserved
-loop-b-preserved c =
-    (
+loop-b-preserved c = (
   omega arith,
   omega arith,
   turn_down_more _ _ _ _ _ _ _ (omega arith) (omega arith) (omega arith) (omega arith) _ _ _ _

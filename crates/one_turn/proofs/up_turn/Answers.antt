@@ -20,8 +20,7 @@ overflow_sub-exps c =
     )
 
 pub add_later-requires : goal.add_later-requires
-add_later-requires c =
-    (
+add_later-requires c = (
   omega (
     arith,
     nth_before c.args.starts.now
@@ -32,8 +31,7 @@ add_later-requires c =
 )
 
 pub loop-b-preserved : goal.loop-b-preserved
-loop-b-preserved c =
-    (
+loop-b-preserved c = (
   omega arith,
   omega arith,
   turn_up_more _ _ _ _ _ _ _ (omega arith) (omega arith) (omega arith) (omega arith) _ _ _

@@ -12,8 +12,7 @@ pub returns-then-not-next_stands : goal.returns-then-not-next_stands
 returns-then-not-next_stands c = affirmed (0, omega arith, sym c.next_stands.ensures ∙ c.if-not-next_stands.true)
 
 pub returns : goal.returns
-returns c =
-    (
+returns c = (
   λ e. (255, omega arith, sym c.next_stands-2.ensures ∙ not-true _ e),
   λ w.
       let s = c in

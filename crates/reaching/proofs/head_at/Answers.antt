@@ -9,8 +9,7 @@ use Rattle.reaching.proofs.Near.{within_numbers, numbers_within}
 use Rattle.reaching.proofs.head_at.Goals as goal
 
 pub returns-then-at-head_size : goal.returns-then-at-head_size
-returns-then-at-head_size c =
-    (
+returns-then-at-head_size c = (
   λ e.
       record {
         partly = λ few. c.partly_in.ensures.0 e;

@@ -9,12 +9,15 @@ use Rattle.solving.proofs.solve_tile.Goals as goal
 
 pub starts-starts-requires : goal.starts-starts-requires
 starts-starts-requires c =
-    let s = c in record { hi_bound = (omega (arith, s.requires.tile.0.few, s.requires.system.1.tables.few), s.requires.system.1.tables.waits, s.requires.system.0.few_letters, omega (arith, s.requires.tile.1)); begun = λ i lo h. omega (
-    arith,
-    nth_next s.args.delays.now i,
-    s.requires.system.1.waits.each (i + 1) (omega arith) (omega (arith, s.requires.tile.0.few)),
-    s.requires.tile.0.begun (i + 1) (omega arith) (omega arith),
-  ) }
+    let s = c in record {
+      hi_bound = (omega (arith, s.requires.tile.0.few, s.requires.system.1.tables.few), s.requires.system.1.tables.waits, s.requires.system.0.few_letters, omega (arith, s.requires.tile.1));
+      begun = λ i lo h. omega (
+        arith,
+        nth_next s.args.delays.now i,
+        s.requires.system.1.waits.each (i + 1) (omega arith) (omega (arith, s.requires.tile.0.few)),
+        s.requires.tile.0.begun (i + 1) (omega arith) (omega arith),
+      );
+    }
 
 pub take_out-requires : goal.take_out-requires
 take_out-requires c =
@@ -23,9 +26,12 @@ take_out-requires c =
 
 pub solve-requires : goal.solve-requires
 solve-requires c =
-    let s = c in record { tables = (tables_fewer _ _ _ _ s.requires.tile.0.few s.requires.system.1.tables, s.requires.tile.0.ranks); runs = runs_apart s.args.s s.args.n s.args.rows.now
-      s.args.exps.now s.args.delays.now _ s.requires.system.1 s.args.done s.args.count s.args.below s.args.hi s.requires.tile.0
-      c.starts-starts.ensures _ (c.take_out.ensures.same_length ∙ s.requires.letters) }
+    let s = c in record {
+      tables = (tables_fewer _ _ _ _ s.requires.tile.0.few s.requires.system.1.tables, s.requires.tile.0.ranks);
+      runs = runs_apart s.args.s s.args.n s.args.rows.now
+          s.args.exps.now s.args.delays.now _ s.requires.system.1 s.args.done s.args.count s.args.below s.args.hi s.requires.tile.0
+          c.starts-starts.ensures _ (c.take_out.ensures.same_length ∙ s.requires.letters);
+    }
 
 pub returns : goal.returns
 returns c =

@@ -40,12 +40,12 @@ overflow_add-rounds c =
 pub loop-done-init : goal.loop-done-init
 loop-done-init c =
     let s = c in (
-  refl,
-  record { within = omega arith; begun = λ h. absurd (omega arith); next = λ h. absurd (omega arith) },
-  record { within = omega arith; ended = λ h. absurd (omega arith); next = λ h. absurd (omega arith) },
-  through_start xors _ _ _ _,
-  omega arith,
-)
+      refl,
+      record { within = omega arith; begun = λ h. absurd (omega arith); next = λ h. absurd (omega arith) },
+      record { within = omega arith; ended = λ h. absurd (omega arith); next = λ h. absurd (omega arith) },
+      through_start xors _ _ _ _,
+      omega arith,
+    )
 
 pub begun-hi-requires : goal.begun-hi-requires
 begun-hi-requires c =
@@ -55,29 +55,35 @@ begun-hi-requires c =
 pub ended-below-requires : goal.ended-below-requires
 ended-below-requires c =
     let s = c in
-    let l = c.loop-done in record { hi_bound = (
+    let l = c.loop-done in record {
+      hi_bound = (
         omega (arith, c.begun-hi.ensures.0.within, s.requires.system.0.shifts.few-nodes),
         s.requires.system.1.tables.waits,
         s.requires.system.0.few_letters,
         record { within = omega (arith, l.invariant.2.within); ended = l.invariant.2.ended; next = λ h. absurd (omega arith) },
-      ); small = λ i h. omega (
+      );
+      small = λ i h. omega (
         arith,
         nth_next s.args.delays.now i,
         waits_small s.args.s s.args.rows.now s.args.exps.now s.args.delays.now
             s.requires.system.0.shifts s.requires.system.1 (i + 1) (omega arith) (omega (arith, c.begun-hi.ensures.0.within)),
-      ) }
+      );
+    }
 
 pub cut-end-requires : goal.cut-end-requires
 cut-end-requires c =
     let s = c in
     let l = c.loop-done in
     let later = still_below s.args.s s.args.n s.args.delays.now _ _ l.done s.requires.system.0.shifts.some_nodes c.ended-below.ensures
-    c.begun-hi.ensures.0.within (omega arith) in record { s_bound = (s.requires.system.0.shifts.few-nodes, s.requires.system.1.tables.waits, s.requires.system.0.few_letters, l.invariant.4, later, c.ended-below.ensures.within, c.begun-hi.ensures.0, c.ended-below.ensures); small = λ i h. omega (
+    c.begun-hi.ensures.0.within (omega arith) in record {
+      s_bound = (s.requires.system.0.shifts.few-nodes, s.requires.system.1.tables.waits, s.requires.system.0.few_letters, l.invariant.4, later, c.ended-below.ensures.within, c.begun-hi.ensures.0, c.ended-below.ensures);
+      small = λ i h. omega (
         arith,
         nth_next s.args.delays.now i,
         waits_small s.args.s s.args.rows.now s.args.exps.now s.args.delays.now
             s.requires.system.0.shifts s.requires.system.1 (i + 1) (omega arith) (omega arith),
-      ) }
+      );
+    }
 
 pub overflow_sub-end : goal.overflow_sub-end
 overflow_sub-end c = omega (arith, c.cut-end.ensures.onward)
@@ -85,23 +91,27 @@ overflow_sub-end c = omega (arith, c.cut-end.ensures.onward)
 pub solve_tile-requires : goal.solve_tile-requires
 solve_tile-requires c =
     let s = c in
-    let l = c.loop-done in record { system = s.requires.system; letters = l.invariant.0 ∙ s.requires.letters; tile = (
-          tile_here s.args.s s.args.n s.args.rows.now s.args.exps.now s.args.delays.now _ _ l.done _ s.requires.system.1
-              c.begun-hi.ensures.0 c.ended-below.ensures c.cut-end.ensures,
-          omega (
-            arith,
-            c.cut-end.ensures.onward,
-            c.cut-end.ensures.lasting,
-            s.requires.system.0.few_letters,
-            waits_small s.args.s
-                s.args.rows.now s.args.exps.now s.args.delays.now s.requires.system.0.shifts s.requires.system.1 (c.ended-below.result + 1)
-                (omega arith) (omega (
-                  arith,
-                  still_below s.args.s s.args.n s.args.delays.now _ _ l.done s.requires.system.0.shifts.some_nodes
-                      c.ended-below.ensures c.begun-hi.ensures.0.within (omega arith),
-                )),
-          ),
-        ) }
+    let l = c.loop-done in record {
+      system = s.requires.system;
+      letters = l.invariant.0 ∙ s.requires.letters;
+      tile = (
+        tile_here s.args.s s.args.n s.args.rows.now s.args.exps.now s.args.delays.now _ _ l.done _ s.requires.system.1
+            c.begun-hi.ensures.0 c.ended-below.ensures c.cut-end.ensures,
+        omega (
+          arith,
+          c.cut-end.ensures.onward,
+          c.cut-end.ensures.lasting,
+          s.requires.system.0.few_letters,
+          waits_small s.args.s
+              s.args.rows.now s.args.exps.now s.args.delays.now s.requires.system.0.shifts s.requires.system.1 (c.ended-below.result + 1)
+              (omega arith) (omega (
+                arith,
+                still_below s.args.s s.args.n s.args.delays.now _ _ l.done s.requires.system.0.shifts.some_nodes
+                    c.ended-below.ensures c.begun-hi.ensures.0.within (omega arith),
+              )),
+        ),
+      );
+    }
 
 pub loop-done-smaller : goal.loop-done-smaller
 loop-done-smaller c = omega (arith, c.cut-end.ensures.onward)

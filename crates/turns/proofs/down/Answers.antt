@@ -10,12 +10,14 @@ loop-j-init c = (omega arith, omega arith, way_down_start _ _ _ _ _ _ _ (omega a
 
 pub down_turn-requires : goal.down_turn-requires
 down_turn-requires c =
-    record { tables = (c.requires.tables.0, omega arith, omega arith); runs = apart_later _ _ _ _ _ _ _ (omega arith)
-      c.loop-j.invariant.2.only.same_length c.requires.runs }
+    record {
+      tables = (c.requires.tables.0, omega arith, omega arith);
+      runs = apart_later _ _ _ _ _ _ _ (omega arith)
+          c.loop-j.invariant.2.only.same_length c.requires.runs;
+    }
 
 pub loop-j-preserved : goal.loop-j-preserved
-loop-j-preserved c =
-    (
+loop-j-preserved c = (
   omega arith,
   omega arith,
   way_down_more _ _ _ _ _ c.requires.tables.0.ordered

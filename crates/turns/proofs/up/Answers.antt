@@ -14,8 +14,7 @@ up_turn-requires c =
     record { tables = (c.requires.tables.0, c.requires.tables.1, omega arith, omega arith); runs = apart_later _ _ _ _ _ _ _ (omega arith) c.loop-j.invariant.2.only.same_length c.requires.runs }
 
 pub loop-j-preserved : goal.loop-j-preserved
-loop-j-preserved c =
-    (
+loop-j-preserved c = (
   omega arith,
   omega arith,
   way_up_more _ _ _ _ _ _ _ _ _ (omega arith)

@@ -31,12 +31,12 @@ loop-at-smaller c = omega arith
 pub loop-at-preserved : goal.loop-at-preserved
 loop-at-preserved c =
     let l = c.loop-at in (
-  omega arith,
-  omega arith,
-  omega arith,
-  laid_on _ _ _ _ l.at _ _ (omega arith) (omega arith) l.invariant.3
-      (block_laid _ _ _ l.at _ _ _ _ _ _ c.block-block.ensures (omega arith) c.copy.ensures (λ p lo hi. ap (sum_at _ _ _) (counted_on p l.at lo))),
-)
+      omega arith,
+      omega arith,
+      omega arith,
+      laid_on _ _ _ _ l.at _ _ (omega arith) (omega arith) l.invariant.3
+          (block_laid _ _ _ l.at _ _ _ _ _ _ c.block-block.ensures (omega arith) c.copy.ensures (λ p lo hi. ap (sum_at _ _ _) (counted_on p l.at lo))),
+    )
 
 pub shape_of-into : goal.shape_of-into
 shape_of-into c = c.loop-at.invariant.3.same_length

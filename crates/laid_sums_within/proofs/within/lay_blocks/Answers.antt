@@ -33,12 +33,12 @@ loop-at-smaller c = omega arith
 pub loop-at-preserved : goal.loop-at-preserved
 loop-at-preserved c =
     let l = c.loop-at in (
-  omega arith,
-  omega arith,
-  omega arith,
-  laid_on _ _ _ _ _ _ _ (omega arith) (omega arith) l.invariant.3
-      (block_laid _ _ _ l.at _ _ _ _ _ _ c.block-block.ensures (omega arith) (laid_until _ _ _ _ _ _ (omega arith) c.copy.ensures) (λ p lo hi. sum_within _ _ _ _ _ _ l.at p _ c.requires.runs.1 l.invariant.3 lo)),
-)
+      omega arith,
+      omega arith,
+      omega arith,
+      laid_on _ _ _ _ _ _ _ (omega arith) (omega arith) l.invariant.3
+          (block_laid _ _ _ l.at _ _ _ _ _ _ c.block-block.ensures (omega arith) (laid_until _ _ _ _ _ _ (omega arith) c.copy.ensures) (λ p lo hi. sum_within _ _ _ _ _ _ l.at p _ c.requires.runs.1 l.invariant.3 lo)),
+    )
 
 pub shape_of-buffer : goal.shape_of-buffer
 shape_of-buffer c = c.loop-at.invariant.3.same_length

@@ -32,8 +32,11 @@ shift_rows-rows-requires c =
 
 pub solve_counted-requires : goal.solve_counted-requires
 solve_counted-requires c =
-    let s = c in record { system = solvable _ _ _ c.shift_rows-rows.ensures _ (ranks _ _ _ s.requires.chosen (omega arith)) _ (omega arith) (omega arith) _
-      (omega (arith, c.repair-n.ensures, bounds s.args.g s.args.lost s.requires.node)) (omega (arith, c.repair-n.ensures, bounds s.args.g s.args.lost s.requires.node)); letters = c.if-buffer-wanted.false ∙ c.repair_buffer-wanted.ensures ∙ same_buffer _ _ ∙ ap (λ m. s.args.g.d * m) (sym c.repair-n.ensures) }
+    let s = c in record {
+      system = solvable _ _ _ c.shift_rows-rows.ensures _ (ranks _ _ _ s.requires.chosen (omega arith)) _ (omega arith) (omega arith) _
+          (omega (arith, c.repair-n.ensures, bounds s.args.g s.args.lost s.requires.node)) (omega (arith, c.repair-n.ensures, bounds s.args.g s.args.lost s.requires.node));
+      letters = c.if-buffer-wanted.false ∙ c.repair_buffer-wanted.ensures ∙ same_buffer _ _ ∙ ap (λ m. s.args.g.d * m) (sym c.repair-n.ensures);
+    }
 
 pub returns : goal.returns
 unfolding repair_refusal

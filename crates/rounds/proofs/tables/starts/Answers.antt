@@ -47,11 +47,11 @@ loop-b-smaller c = omega arith
 pub loop-b-preserved : goal.loop-b-preserved
 loop-b-preserved c =
     let l = c.loop-b in (
-  λ h. omega arith,
-  omega arith,
-  simp length-set l.invariant.2,
-  below_more _ _ (λ i h lo. get_or-set_other l.starts l.b i _ 0 (λ q. omega arith) ∙ l.invariant.3 i h lo) (λ lo. get_or-set_same l.starts l.b _ 0 (omega arith)),
-)
+      λ h. omega arith,
+      omega arith,
+      simp length-set l.invariant.2,
+      below_more _ _ (λ i h lo. get_or-set_other l.starts l.b i _ 0 (λ q. omega arith) ∙ l.invariant.3 i h lo) (λ lo. get_or-set_same l.starts l.b _ 0 (omega arith)),
+    )
 
 pub returns : goal.returns
 returns c =
