@@ -4,7 +4,7 @@
 #![tactic(auto)]
 
 mod collecting;
-mod rebuilding;
+mod repairing;
 mod steps;
 mod storing;
 
@@ -31,7 +31,7 @@ fn night(
     heading(g);
     storing::store(g, lost, a, b, c);
     collecting::recover(g, ids, a, b, c);
-    rebuilding::repair(g, lost, helpers, a, b, c);
+    repairing::repair(g, lost, helpers, a, b, c);
 }
 
 // The same with each of these lengths in place of the group's own.
