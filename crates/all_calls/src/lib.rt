@@ -27,7 +27,7 @@ fn called(
     state
 }
 
-// What a line does besides what `script::next` has done: a line of the memories names no call.
+// What a line does besides what `script::next_of_parts` has done: a line of the memories names no call.
 fn done(line: Line, found: &[usize; 32], state: Arriving, a: &mut [u8], b: &mut [u8]) -> Arriving {
     if line.operation < 10 {
         return state;
@@ -45,7 +45,7 @@ pub fn run(text: &[u8], state: Arriving, a: &mut [u8], b: &mut [u8]) -> Arriving
     let mut state = state;
     let mut at = 0;
     while at < text.len() {
-        let line = script::next(text, at, &mut found, a, b);
+        let line = script::next_of_parts(text, at, &mut found, a, b);
         state = done(line, &found, state, a, b);
         at = line.next;
     }

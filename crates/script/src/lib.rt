@@ -8,5 +8,5 @@
 mod memory;
 mod telling;
 
-pub use memory::next;
+pub use memory::{next, next_of_parts};
 pub use telling::{answer, numbers, sum};
