@@ -12,7 +12,7 @@ use Rattle.arriving.specs.declared.Arriving.{Arriving}
 use Rattle.reaching.specs.Numbers.{number_at}
 use Rattle.arriving.specs.States.{state_with, head_so_far, Leads}
 use Rattle.arriving.specs.Calls.{Takes}
-use Rattle.reaching.specs.Steps.Reaching.{StandsWithin, Stepped, HeadAt}
+use Rattle.reaching.specs.Steps.Reaching.{Within, Stepped, HeadAt}
 use Rattle.arriving.specs.Steps.Reaching.{PastHead, StepsOver}
 use Rattle.reaching.proofs.BytesBehind.{whole_grown}
 use Rattle.arriving.proofs.Led.{leads_right}
@@ -22,7 +22,7 @@ use Rattle.arriving.proofs.Taking.{takes_none, takes_all, takes_some}
 
 module _ (s : Arriving) (T : ℕ) (w : PastHead s T) where
   numbers : HeadAt (head_so_far s) s.at
-  numbers = within_numbers (head_so_far s) s.at w.long w.small (subst (λ n. StandsWithin s.kind n s.at) w.total w.within)
+  numbers = within_numbers (head_so_far s) s.at w.long w.small (subst (λ n. Within s.kind n s.at) w.total w.within)
 
   leads : Leads s
   leads = leads_right s numbers w.none

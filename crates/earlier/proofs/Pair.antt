@@ -18,7 +18,7 @@ use Rattle.tiles.specs.Tile.{start_of, run_of}
 use Rattle.tiles.proofs.Even.{lag_is}
 use Rattle.tiles.proofs.Runs.{run_letter_lem}
 use Rattle.tiles.proofs.Taking.{taken_piece}
-use Rattle.spans.specs.Steps.Spans.{ReadsSpan, ReadsBefore, RunPlaced, HasBegun}
+use Rattle.spans.specs.Steps.Spans.{Reads, ReadsBefore, RunPlaced, HasBegun}
 use Rattle.earlier.specs.Steps.{AddedFrom, TakesOne}
 use Rattle.spans.proofs.Reading.{reads_same}
 
@@ -82,7 +82,7 @@ module _ {s n : ℕ} {t : ℕ → ℕ → ℕ} {done count b a : ℕ} (some : 1 
 
     module _ (ordered : Ordered s t) {xs ys : List ℕ} (laid : AddedFrom xs ys (start_of t n done b + skip) ((a - 1) * n + (place - 1)) len) where
       -- the place that letter p reads lies lag rounds before it
-      by_lag : ReadsSpan (done + 1) (lag t b a + delay t a) (min n (done - delay t a)) count skip place len
+      by_lag : Reads (done + 1) (lag t b a + delay t a) (min n (done - delay t a)) count skip place len
       by_lag =
           reads_same (((done - delay t b) + 1) + t b b) (t b a) (done + 1) (lag t b a + delay t a) (min n (done - delay t a)) count skip place
           len
@@ -165,7 +165,7 @@ module _ {s n : ℕ} {t : ℕ → ℕ → ℕ} {done count b a : ℕ} (some : 1 
           first : {l : ℕ} → (done + 1) + skip ≤ l + 1 → done + skip ≤ l
           first h = omega arith
 
-          short : (l d : ℕ) → d ≤ done → ReadsSpan (done + 1) (l + d) (min n (done - d)) count skip place len → skip + len ≤ l
+          short : (l d : ℕ) → d ≤ done → Reads (done + 1) (l + d) (min n (done - d)) count skip place len → skip + len ≤ l
           short l d h r =
               ⊎_elim (λ none. ⊎_elim (λ z. omega arith) (λ some. skipped l d h none (r.below some)) (le_or_lt skip 0))
               (λ some. last l d h (r.here some) r.up_to) (le_or_lt len 0)

@@ -14,7 +14,7 @@ use Rattle.kinds.proofs.RowLaws.{size_small}
 use Rattle.heads.specs.Heads.{heads}
 use Rattle.heads.proofs.HeadLaws.{total_small, total_some, some_numbers}
 use Rattle.searching.specs.Steps.Search.{stands_at, farthest, StopsFrom}
-use Rattle.reaching.specs.Steps.Reaching.{StandsWithin, HeadAt}
+use Rattle.reaching.specs.Steps.Reaching.{Within, HeadAt}
 
 -- no share is longer than this
 pub near : (h : Head) (at : ℕ) → HeadAt h at → at ≤ farthest
@@ -22,7 +22,7 @@ near h at w =
     ⊎_elim (λ long. omega (arith, w.share long, total_small h, size_small h.kind)) (λ few. omega (arith, size_small h.kind)) (le_or_lt (head_size h.kind) at)
 
 -- numbers in range are those that give a share some letters
-pub within_numbers : (h : Head) (at : ℕ) → head_size h.kind ≤ at → h.batch < 2 ^ 32 → StandsWithin h.kind (heads.total h) at → HeadAt h at
+pub within_numbers : (h : Head) (at : ℕ) → head_size h.kind ≤ at → h.batch < 2 ^ 32 → Within h.kind (heads.total h) at → HeadAt h at
 within_numbers h at long small w =
     record {
       partly = λ few. absurd (omega arith);
@@ -30,7 +30,7 @@ within_numbers h at long small w =
       share = λ l. w.share;
     }
 
-pub numbers_within : (h : Head) (at : ℕ) → head_size h.kind ≤ at → HeadAt h at → StandsWithin h.kind (heads.total h) at
+pub numbers_within : (h : Head) (at : ℕ) → head_size h.kind ≤ at → HeadAt h at → Within h.kind (heads.total h) at
 numbers_within h at long w = record { some = total_some h (w.whole long); share = w.share long }
 
 -- one byte is passed exactly if it stands

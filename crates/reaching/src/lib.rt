@@ -8,7 +8,7 @@ ghost use Rattle.heads.specs.Heads.{heads};
 ghost use Rattle.heads.specs.Steps.Partly.{head_after};
 ghost use Rattle.searching.specs.Steps.Search.{stands_at};
 ghost use Rattle.reaching.specs.Numbers.{number_at};
-ghost use Rattle.reaching.specs.Steps.Reaching.{StandsWithin, Stepped, HeadAt, CanBeWrong, Led};
+ghost use Rattle.reaching.specs.Steps.Reaching.{Within, Stepped, HeadAt, CanBeWrong, Led};
 
 use heads::{Head, bytes as head_bytes};
 use records::sizes;
@@ -16,7 +16,7 @@ use records::sizes;
 // So many bytes can stand in a share of so many letters, with its head of this kind in. (Where a head's numbers are out of range, there are none.)
 pub fn within(kind: usize, letters: usize, at: usize) -> bool
     requires { letters < total_limit }
-    ensures { (result ≡ true) ↔ StandsWithin kind letters at }
+    ensures { (result ≡ true) ↔ Within kind letters at }
 {
     if letters == 0 {
         return false;

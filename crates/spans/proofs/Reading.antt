@@ -2,11 +2,11 @@
 use mathlib.Core.Path.{◌≡◌}
 use Prim.Native.Nat.{ℕ, ◌+◌, ◌-◌, ◌≤◌, ◌<◌, min}
 use native.Mathlib.Omega.{arith}
-use Rattle.spans.specs.Steps.Spans.{ReadsSpan}
+use Rattle.spans.specs.Steps.Spans.{Reads}
 
 pub reads_same :
     (reach moved reach' moved' top count skip place len : ℕ) → reach + moved' ≡ reach' + moved
-    → ReadsSpan reach moved top count skip place len → ReadsSpan reach' moved' top count skip place len
+    → Reads reach moved top count skip place len → Reads reach' moved' top count skip place len
 reads_same reach moved reach' moved' top count skip place len e r =
     record {
       inside = r.inside;
@@ -18,7 +18,7 @@ reads_same reach moved reach' moved' top count skip place len e r =
     }
 
 -- the first letter reads above `top`, and so do all others
-pub reads_none : (reach moved top count : ℕ) → top + moved < reach → ReadsSpan reach moved top count 0 1 0
+pub reads_none : (reach moved top count : ℕ) → top + moved < reach → Reads reach moved top count 0 1 0
 reads_none reach moved top count h =
     record {
       inside = omega arith;
@@ -32,7 +32,7 @@ reads_none reach moved top count h =
 -- the first letter reads a place inside
 pub reads_from :
     (reach moved top count place : ℕ) → place + moved ≡ reach → 1 ≤ place → place ≤ top
-    → ReadsSpan reach moved top count 0 place (min count ((top + 1) - place))
+    → Reads reach moved top count 0 place (min count ((top + 1) - place))
 reads_from reach moved top count place e from_one up_to =
     record {
       inside = omega arith;

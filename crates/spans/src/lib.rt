@@ -4,7 +4,7 @@
 ghost use Rattle.std.specs.Prelude.{◌+◌, ◌^◌, ◌≤◌};
 ghost use Rattle.equation.specs.Rows.{shift_in, Solvable};
 ghost use Rattle.equation.specs.Delays.{Delays};
-ghost use Rattle.spans.specs.Steps.Spans.{RunPlaced, HasBegun, ReadsSpan, ReadsBefore};
+ghost use Rattle.spans.specs.Steps.Spans.{RunPlaced, HasBegun, Reads, ReadsBefore};
 
 // The letters of a sequence that a run reads: the first of them is read by the letter after `skip` of the run, and stands at place `place`.
 #[derive(Clone, Copy)]
@@ -43,7 +43,7 @@ pub fn read_before(
 // It is the only signed number of the store.
 fn read(q: usize, own: usize, moved: usize, top: usize, count: usize) -> Span
     requires { (q ≤ 2 ^ 33) × (own ≤ 65535) × (moved ≤ 65535) × (top ≤ 2 ^ 33) }
-    ensures { ReadsSpan (q + own) moved top count result.skip result.place result.count }
+    ensures { Reads (q + own) moved top count result.skip result.place result.count }
 {
     let offset = own as i64 - moved as i64;
     let at = q as i64 + offset;
@@ -67,7 +67,7 @@ fn read(q: usize, own: usize, moved: usize, top: usize, count: usize) -> Span
 
 // The same where the first `outside` letters of the run read before the sequence's first place: so the next one reads that place.
 fn below(outside: usize, top: usize, count: usize) -> Span
-    ensures { ReadsSpan 1 outside top count result.skip result.place result.count }
+    ensures { Reads 1 outside top count result.skip result.place result.count }
 {
     let skip = letters::lesser(count, outside);
     Span {

@@ -2,14 +2,14 @@
 // In a block of so many letters a byte can count the zeros, so that the compiler counts sixteen letters at once.
 ghost use Rattle.std.specs.Prelude.{◌+◌, ◌≤◌, ◌<◌, length};
 ghost use Rattle.letters.specs.Steps.Rests.{widest_block, left_over};
-ghost use Rattle.worth.specs.Steps.Zeros.{ZerosAmong};
+ghost use Rattle.worth.specs.Steps.Zeros.{Zeros};
 
 use adding::eights;
 
 // Those of `count` letters that start at index `start`, no more than a byte can count.
 fn in_few(from: &[u8], start: usize, count: usize) -> usize
     requires { (count ≤ 255) × (start + count ≤ length from.now) }
-    ensures { ZerosAmong from.now start count result }
+    ensures { Zeros from.now start count result }
 {
     let mut zeros: u8 = 0;
     let mut i = 0;
@@ -27,8 +27,8 @@ fn in_few(from: &[u8], start: usize, count: usize) -> usize
 fn in_rest(from: &[u8], start: usize, count: usize, width: usize, zeros: usize) -> usize
     requires width { (0 < width) × (width ≤ widest_block) }
     requires run { start + count ≤ length from.now }
-    requires zeros { ZerosAmong from.now start (left_over count width) zeros }
-    ensures { ZerosAmong from.now start (left_over count (width + width)) result }
+    requires zeros { Zeros from.now start (left_over count width) zeros }
+    ensures { Zeros from.now start (left_over count (width + width)) result }
 {
     if count % (width + width) < width {
         return zeros;
@@ -39,7 +39,7 @@ fn in_rest(from: &[u8], start: usize, count: usize, width: usize, zeros: usize) 
 // Those among the letters that the widest blocks leave over.
 pub fn in_rests(from: &[u8], start: usize, count: usize) -> usize
     requires { start + count ≤ length from.now }
-    ensures { ZerosAmong from.now start (left_over count widest_block) result }
+    ensures { Zeros from.now start (left_over count widest_block) result }
 {
     let mut zeros = in_few(from, start, count % 8);
     zeros = in_rest(from, start, count, 8, zeros);
@@ -51,8 +51,8 @@ pub fn in_rests(from: &[u8], start: usize, count: usize) -> usize
 // All of them, where `rests` are among the letters that the widest blocks leave over.
 pub fn in_blocks(from: &[u8], start: usize, count: usize, rests: usize) -> usize
     requires run { start + count ≤ length from.now }
-    requires rests { ZerosAmong from.now start (left_over count widest_block) rests }
-    ensures { ZerosAmong from.now start count result }
+    requires rests { Zeros from.now start (left_over count widest_block) rests }
+    ensures { Zeros from.now start count result }
 {
     let mut zeros = rests;
     let mut i = count % eights::WIDEST;

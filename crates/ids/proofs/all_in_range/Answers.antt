@@ -1,5 +1,7 @@
 -- `checks::all_in_range` meets its contract: after i turns, what is left of the ids decides.
 use mathlib.Core.Path.{refl, sym, ap, ◌∙◌}
+use Prim.Native.Nat.{◌≤◌}
+use lib.ListN.{get_or}
 use Rattle.ids.specs.Ids.{all_in_range}
 use Rattle.ids.proofs.Ids.{all_next, none_left}
 use Rattle.letters.proofs.Places.{both_no}
@@ -22,11 +24,13 @@ returns-then-n-ids c =
 
 pub loop-i-preserved : goal.loop-i-preserved
 loop-i-preserved c =
-    let s = c in (
+    let s = c in
+    let some : 1 ≤ get_or s.args.ids.now s.loop-i.i 0 = omega arith in
+    let most : get_or s.args.ids.now s.loop-i.i 0 ≤ s.args.n = omega arith in (
       omega arith,
       s.loop-i.invariant.1
           ∙ all_next _ _ s.loop-i.i (omega arith)
-          ∙ simp (le-leb _ _ c.if-ids-i-lt1.false, le-leb _ _ c.if-n-ids.false),
+          ∙ simp (le-leb _ _ some, le-leb _ _ most),
     )
 
 pub returns : goal.returns

@@ -4,7 +4,7 @@ use Prim.Native.Nat.{◌≤◌}
 use native.Mathlib.Omega.{arith}
 use Rattle.kinds.specs.Kinds.{head_size}
 use Rattle.heads.proofs.HeadLaws.{total_small}
-use Rattle.reaching.specs.Steps.Reaching.{StandsWithin}
+use Rattle.reaching.specs.Steps.Reaching.{Within}
 use Rattle.reaching.proofs.Near.{within_numbers, numbers_within}
 use Rattle.reaching.proofs.head_at.Goals as goal
 
@@ -26,6 +26,6 @@ pub returns : goal.returns
 returns c =
     let s = c in
     let long : head_size s.args.head.kind ≤ s.args.at = omega (arith, c.if-at-head_size.false, c.head_size.ensures) in (
-      λ yes. within_numbers s.args.head s.args.at long (omega arith) (subst (λ n. StandsWithin s.args.head.kind n s.args.at) s.requires (c.within.ensures.0 yes)),
-      λ w. c.within.ensures.1 (subst (λ n. StandsWithin s.args.head.kind n s.args.at) (sym s.requires) (numbers_within s.args.head s.args.at long w)),
+      λ yes. within_numbers s.args.head s.args.at long (omega arith) (subst (λ n. Within s.args.head.kind n s.args.at) s.requires (c.within.ensures.0 yes)),
+      λ w. c.within.ensures.1 (subst (λ n. Within s.args.head.kind n s.args.at) (sym s.requires) (numbers_within s.args.head s.args.at long w)),
     )

@@ -9,7 +9,7 @@ use Rattle.searching.specs.Steps.Search.{stands_at, farthest}
 use Rattle.reaching.specs.Numbers.{number_at}
 
 -- so many bytes can stand in a share of so many letters, of which it has some, with a head of this kind
-pub record StandsWithin (kind letters at : ℕ) : Type 0 where
+pub record Within (kind letters at : ℕ) : Type 0 where
   pub some : letters ≡ 0 → ⊥
   pub share : at ≤ size_for (head_size kind) letters
 

@@ -2,6 +2,7 @@
 use mathlib.Core.Path.{◌≡◌}
 use mathlib.Core.Logic.{⊎_elim}
 use native.Mathlib.Omega.{arith}
+use lib.ListN.{get_or}
 use Rattle.letters.proofs.Cases.{le_or_lt}
 use Rattle.skipping.proofs.past_zeros.Goals as goal
 
@@ -10,9 +11,6 @@ loop-i-init c = record { on = omega arith; within = omega arith; zeros = λ p lo
 
 pub bounds-share-i : goal.bounds-share-i
 bounds-share-i c = omega arith
-
-pub returns-then-share-i-ne0 : goal.returns-then-share-i-ne0
-returns-then-share-i-ne0 c = c.loop-i.invariant
 
 pub overflow_add-i : goal.overflow_add-i
 overflow_add-i c = omega arith
@@ -23,10 +21,11 @@ loop-i-smaller c = omega arith
 pub loop-i-preserved : goal.loop-i-preserved
 loop-i-preserved c =
     let l = c.loop-i in
+    let zero : get_or c.args.share.now l.i 0 ≡ 0 = omega arith in
     record {
       on = omega (arith, l.invariant.on);
       within = omega arith;
-      zeros = λ p lo hi. ⊎_elim (λ last. let here : p ≡ l.i = omega arith in rw here c.if-share-i-ne0.false) (l.invariant.zeros p lo) (le_or_lt l.i p);
+      zeros = λ p lo hi. ⊎_elim (λ last. let here : p ≡ l.i = omega arith in rw here zero) (l.invariant.zeros p lo) (le_or_lt l.i p);
     }
 
 pub returns : goal.returns

@@ -13,10 +13,10 @@ pub returns-then-good-bytes : goal.returns-then-good-bytes
 returns-then-good-bytes c =
     let s = c in
     searched_some s.args.self s.args.letters s.requires.0 s.args.bytes.now s.args.start _ s.requires.1 _ c.head_so_far-head.ensures c.first_wrong.ensures
-    (λ all. omega (arith, c.if-good-bytes.true)) _ c.wrong_at.ensures
+    (λ all. omega arith) _ c.wrong_at.ensures
 
 pub returns : goal.returns
 returns c =
     let s = c in
     searched_all s.args.self s.args.letters s.requires.0 s.args.bytes.now s.args.start _ s.requires.1 _ c.head_so_far-head.ensures c.first_wrong.ensures
-    (omega (arith, c.if-good-bytes.false, c.first_wrong.ensures.within)) _ c.state_with.ensures
+    (omega (arith, c.first_wrong.ensures.within)) _ c.state_with.ensures

@@ -2,14 +2,14 @@
 use mathlib.Core.Path.{◌≡◌, subst}
 use native.Mathlib.Omega.{arith}
 use Rattle.letters.specs.Steps.Rests.{widest_block}
-use Rattle.worth.specs.Steps.Zeros.{ZerosAmong}
+use Rattle.worth.specs.Steps.Zeros.{Zeros}
 use Rattle.worth.proofs.Counted.{leftover, part_next, few}
 use Rattle.worth.proofs.zeros.in_blocks.Goals as goal
 
 pub loop-i-init : goal.loop-i-init
 loop-i-init c =
     let s = c in
-    (omega arith, omega arith, subst (λ n. ZerosAmong s.args.from.now s.args.start n s.args.rests) (leftover s.args.count widest_block) s.requires.rests)
+    (omega arith, omega arith, subst (λ n. Zeros s.args.from.now s.args.start n s.args.rests) (leftover s.args.count widest_block) s.requires.rests)
 
 pub overflow_add-start : goal.overflow_add-start
 overflow_add-start c = omega arith
@@ -35,4 +35,4 @@ pub returns : goal.returns
 returns c =
     let a = c.args in
     let done : c.loop-i.i ≡ a.count = omega arith in
-    subst (λ n. ZerosAmong a.from.now a.start n c.loop-i.zeros) done c.loop-i.invariant.2
+    subst (λ n. Zeros a.from.now a.start n c.loop-i.zeros) done c.loop-i.invariant.2

@@ -1,7 +1,7 @@
 -- `zeros::in_few` meets its contract: after i turns the zeros of the first i letters are counted.
 use mathlib.Core.Path.{◌≡◌, subst}
 use native.Mathlib.Omega.{arith}
-use Rattle.worth.specs.Steps.Zeros.{ZerosAmong}
+use Rattle.worth.specs.Steps.Zeros.{Zeros}
 use Rattle.worth.proofs.Counted.{none_yet, zero_next, other_next, few}
 use Rattle.worth.proofs.zeros.in_few.Goals.{then-from-start-eq0, else-from-start-eq0}
 use Rattle.worth.proofs.zeros.in_few.Goals as goal
@@ -42,4 +42,4 @@ pub returns : goal.returns
 returns c =
     let a = c.args in
     let done : c.loop-i.i ≡ a.count = omega arith in
-    subst (λ n. ZerosAmong a.from.now a.start n c.loop-i.zeros) done c.loop-i.invariant.1
+    subst (λ n. Zeros a.from.now a.start n c.loop-i.zeros) done c.loop-i.invariant.1
