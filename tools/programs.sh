@@ -71,7 +71,7 @@ where its first wrong letter stands. It takes k+2 nodes or more: with them one w
   more than one node is wrong: nothing can be said of any of them
 
 Letters and packets count from 1, and the index in the file from 0. What is in the way of an answer is said on standard error, of
-every file: one that can't be read, is unfinished or malformed, holds previews, is of another group or batch than the first, or
+every file: one that can't be read (also one whose name isn't UTF-8), is unfinished or malformed, holds previews, is of another group or batch than the first, or
 of a node that was there before; or too few. Each file is read twice, so it must stay as it is meanwhile. All shares together have
 at most 3,932,160 letters, and a share 1,048,576 bytes; of longer batches the library's call tells the same.
 
