@@ -8,7 +8,9 @@ use native.Mathlib.Omega.{arith}
 use Rattle.letters.specs.Places.{both}
 use Rattle.group.specs.declared.Refusal.{Refusal}
 use Rattle.group.specs.declared.Refusal.TheVariants.{Numbers, Length, Ids, Order, Input, Output, Unfinished, Kind, HeadNumber, Filler, Total, AfterEnd, TooFew}
-use Rattle.std.specs.Prelude.{Ok, Err}
+use Rattle.std.specs.Prelude.{Result, Ok, Err}
+use Rattle.std.specs.Result.{IsErrAnd}
+use Rattle.std.proofs.lemmas.Result.{err_from_is_err_and}
 use Rattle.group.specs.Answers.{Answer, Check, refusal_number, check_number, number_of, value_of, unless, first, if_fine, Answers}
 
 -- no refusal has the number 0
@@ -105,6 +107,10 @@ went_on k a b n e h q = q ∙ sym (first_fine a b (fine k a e h))
 -- the second of two checks, where the first refuses nothing
 pub skipped : (a b n : ℕ) → a ≡ 0 → n ≡ b → n ≡ first a b
 skipped a b n z e = e ∙ sym (first_fine a b z)
+
+-- where `?` hands a refusal on, that refusal comes back
+pub handed_on : {A : Type 0} (r : Result A Refusal) (e : Refusal) → IsErrAnd r (λ x. x ≡ e) → r ≡ Err e
+handed_on r e h = let p = err_from_is_err_and r h in p.1 ∙ ap Err p.2
 
 -- what an answer that is told apart tells
 pub answered_value : (k : Answer) (w q v : ℕ) → k ≡ Ok w → Answers k q v → (q ≡ 0) × (w ≡ v)
