@@ -1,7 +1,6 @@
 -- `rows::preview_row` meets its contract: after every turn one shift more stands in the row.
 use native.Mathlib.Omega.{arith}
 use mathlib.Core.Path.{refl}
-use Prim.Native.Nat.{◌-◌}
 use lib.ListN.{length-set}
 use Rattle.sums.proofs.Filled.{filled_more}
 use Rattle.sequences.proofs.rows.preview_row.Goals as goal

@@ -1,6 +1,6 @@
 -- `rows::preview_rows` meets its contract: after i turns the first i shifts stand in their places.
 use mathlib.Core.Path.{refl}
-use Prim.Native.Nat.{◌-◌, ◌/◌}
+use Prim.Native.Nat.{◌/◌}
 use native.Mathlib.Omega.{arith}
 use lib.ListN.{length-set}
 use Rattle.sums.proofs.Filled.{filled_more}
