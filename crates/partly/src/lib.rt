@@ -83,12 +83,10 @@ pub fn partly_in(head: Head, at: usize) -> bool
         return false;
     }
     let size = kinds::head_size(head.kind);
-    let mut offset = 0;
-    while offset < size {
+    for offset in 0..size {
         if !byte_fits(head, at, offset) {
             return false;
         }
-        offset += 1;
     }
     true
 }
@@ -115,10 +113,8 @@ pub fn head_after(head: Head, at: usize, bytes: &[u8]) -> Head
 {
     let size = kinds::head_size(head.kind);
     let mut first = [0u8; MOST_BYTES];
-    let mut next = 0;
-    while next < size {
+    for next in 0..size {
         first[next] = byte_after(head, at, bytes, next);
-        next += 1;
     }
     head_bytes::head_in(&first)
 }
