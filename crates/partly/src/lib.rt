@@ -50,26 +50,13 @@ fn byte_fits(head: Head, at: usize, offset: usize) -> bool
 fn blank(head: Head) -> bool
     ensures { (result ≡ true) ↔ Blank head }
 {
-    let g = head.group;
-    if head.kind != 0 {
-        return false;
-    }
-    if g.n != 0 {
-        return false;
-    }
-    if g.k != 0 {
-        return false;
-    }
-    if g.d != 0 {
-        return false;
-    }
-    if head.node != 0 {
-        return false;
-    }
-    if g.l != 0 {
-        return false;
-    }
-    head.batch == 0
+    let none = Head {
+        group: group::of(0, 0, 0, 0),
+        node: 0,
+        batch: 0,
+        kind: 0,
+    };
+    head == none
 }
 
 // These can be the numbers of a head of which so many bytes are in.
