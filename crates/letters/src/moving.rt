@@ -7,11 +7,7 @@ pub fn copy(from: &[u8], start: usize, to: &mut [u8], at: usize, count: usize)
     requires { (start + count ≤ length from.now) × (at + count ≤ length to.old) }
     ensures { Laid to.old to.new at (at + count) (λ p. get_or from.now (start + (p - at)) 0) }
 {
-    let mut i = 0;
-    while i < count {
-        to[at + i] = from[start + i];
-        i += 1;
-    }
+    to[at..at + count].copy_from_slice(&from[start..start + count]);
 }
 
 // Sets the letters from index `at` up to `end` to zero. The others stay as they were.
@@ -19,9 +15,5 @@ pub fn clear(to: &mut [u8], at: usize, end: usize)
     requires { (at ≤ end) × (end ≤ length to.old) }
     ensures { Laid to.old to.new at end (λ p. 0) }
 {
-    let mut i = at;
-    while i < end {
-        to[i] = 0;
-        i += 1;
-    }
+    to[at..end].fill(0);
 }
