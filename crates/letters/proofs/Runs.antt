@@ -225,3 +225,22 @@ module _ {A : Type 0} (𝓐 : Adding A) where
       get_or-drop a (added 𝓐 xs at ys) i 𝓐.none
       ∙ added_after xs at ys (a + i) (omega arith) (omega arith)
       ∙ sym (get_or-drop a xs i 𝓐.none))
+
+  front_xored : (xs : List A) (n : ℕ) (ys : List A) → length ys ≤ n → xored 𝓐 (take n xs) ys ++ drop n xs ≡ xored 𝓐 xs ys
+  unfolding xored
+  front_xored [] zero ys h = refl
+  front_xored [] (suc n) ys h = refl
+  front_xored (x ∷ xs) zero [] h = refl
+  front_xored (x ∷ xs) (suc n) [] h = ap (λ l. x ∷ l) (take-append-drop n xs)
+  front_xored (x ∷ xs) zero (y ∷ ys) h = absurd (omega arith)
+  front_xored (x ∷ xs) (suc n) (y ∷ ys) h = ap (λ l. 𝓐.plus x y ∷ l) (front_xored xs n ys (omega arith))
+
+  -- a run that lies in the front of a list is added into the front alone
+  pub added_front :
+      (xs : List A) (n at : ℕ) (ys : List A) → at + length ys ≤ n → added 𝓐 (take n xs) at ys ++ drop n xs ≡ added 𝓐 xs at ys
+  unfolding added xored
+  added_front xs n zero ys h = front_xored xs n ys (omega arith)
+  added_front [] zero (suc at) ys h = refl
+  added_front [] (suc n) (suc at) ys h = refl
+  added_front (x ∷ xs) zero (suc at) ys h = absurd (omega arith)
+  added_front (x ∷ xs) (suc n) (suc at) ys h = ap (λ l. x ∷ l) (added_front xs n at ys (omega arith))

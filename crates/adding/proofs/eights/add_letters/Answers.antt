@@ -1,5 +1,5 @@
 -- One letter more of the run is in after each turn.
-use Rattle.std.proofs.Common.{drop, sym, arith, length-drop}
+use Rattle.std.proofs.Common.{drop, refl, sym, arith, length-drop}
 use Rattle.std.proofs.Math.Seq.{get_or-drop}
 use Rattle.letters.specs.Algebra.{xors}
 use Rattle.letters.proofs.Runs.{added_none, added_next}
@@ -11,4 +11,4 @@ loop-i-init c = sym (added_none xors _ _)
 pub loop-i-preserved : goal.loop-i-preserved
 loop-i-preserved c =
     let a = c.args in
-    rw (added_next xors a.into.now a.at (drop a.start a.run.now) c.loop-i.i (simp length-drop (omega arith)), get_or-drop, ← c.loop-i.invariant)
+    rw (added_next xors a.into.now a.at (drop a.start a.run.now) c.loop-i.i (simp length-drop (omega arith)), get_or-drop, ← c.loop-i.invariant) refl
