@@ -7,7 +7,10 @@ pub fn copy(from: &[u8], start: usize, to: &mut [u8], at: usize, count: usize)
     requires { (start + count ≤ length from.now) × (at + count ≤ length to.old) }
     ensures { Laid to.old to.new at (at + count) (λ p. get_or from.now (start + (p - at)) 0) }
 {
-    to[at..at + count].copy_from_slice(&from[start..start + count]);
+    // Not copy_from_slice: where the letters are a local block's, the compiler then asks at every call whether it overlaps `to`.
+    for i in 0..count {
+        to[at + i] = from[start + i];
+    }
 }
 
 // Sets the letters from index `at` up to `end` to zero. The others stay as they were.
