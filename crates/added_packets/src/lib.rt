@@ -30,12 +30,10 @@ pub fn add_packets(
 {
     windows::clear(packets);
     let mut end = 0;
-    let mut j = 0;
-    while j < g.d {
-        j += 1;
+    for j in 0..g.d {
         let start = end;
         end = start + size;
-        add_packet(g, node, j, table, file, &mut packets[start..end]);
+        add_packet(g, node, j + 1, table, file, &mut packets[start..end]);
     }
 }
 
@@ -47,9 +45,8 @@ fn add_packet(g: Group, node: usize, column: usize, table: &[u8], file: &[u8], l
     ensures { letters.new ≡ packet xors g file.now node column }
 {
     let mut start = entries::free_start(g, 1, column);
-    let mut row = 0;
-    while row < g.d {
-        row += 1;
+    for above in 0..g.d {
+        let row = above + 1;
         add_entry(g, node, column, row, start, table, file, letters);
         start = entries::next_start(g, row, column, start);
     }

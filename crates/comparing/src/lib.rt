@@ -42,12 +42,10 @@ fn right_packets(
     ensures { SameFor held.now (λ q. get_or (product xors g file.now node) q 0) result }
 {
     let mut end = 0;
-    let mut j = 0;
-    while j < g.d {
-        j += 1;
+    for j in 0..g.d {
         let start = end;
         end = start + size;
-        let right = right_packet(g, node, j, size, shifts, file, &held[start..end]);
+        let right = right_packet(g, node, j + 1, size, shifts, file, &held[start..end]);
         if right < size {
             return start + right;
         }

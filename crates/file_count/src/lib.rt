@@ -18,10 +18,8 @@ pub fn of_file(g: Group, ids: &[usize], rows: &[usize], file: &[u8]) -> usize
     ensures { result ≡ recovery_count g ids.now file.now }
 {
     let mut count: usize = 0;
-    let mut u = 1;
-    while u < g.d {
-        u += 1;
-        count += of_column(g, ids, rows, u, file);
+    for u in 1..g.d {
+        count += of_column(g, ids, rows, u + 1, file);
     }
     count
 }
@@ -33,10 +31,8 @@ fn of_column(g: Group, ids: &[usize], rows: &[usize], u: usize, file: &[u8]) -> 
 {
     let s = letters::lesser(u, g.k);
     let mut count: usize = 0;
-    let mut v = 0;
-    while v < s {
-        v += 1;
-        count += of_entry(g, ids, rows, u, s, v, file);
+    for v in 0..s {
+        count += of_entry(g, ids, rows, u, s, v + 1, file);
     }
     count
 }
@@ -79,10 +75,8 @@ fn of_takings(
         return 0;
     }
     let mut count: usize = 0;
-    let mut w = 0;
-    while w < v {
-        w += 1;
-        count += counting::of_run(file, start, g.l, whole, rows, w, u);
+    for w in 0..v {
+        count += counting::of_run(file, start, g.l, whole, rows, w + 1, u);
     }
     count
 }

@@ -23,10 +23,8 @@ pub fn collect(
     requires room { length file.old ≡ file_letters g }
     ensures { file.new ≡ collected_without g ids.now packets.now without }
 {
-    let mut u = 0;
-    while u < g.d {
-        u += 1;
-        collect_column(g, ids, starts, without, u, packets, file);
+    for u in 0..g.d {
+        collect_column(g, ids, starts, without, u + 1, packets, file);
     }
 }
 
@@ -46,10 +44,8 @@ fn collect_column(
 {
     let sequences = letters::lesser(u, g.k);
     let mut at = entries::free_start(g, 1, u);
-    let mut v = 0;
-    while v < sequences {
-        v += 1;
-        collect_piece(g, ids, starts, without, v, u, at, packets, file);
+    for v in 0..sequences {
+        collect_piece(g, ids, starts, without, v + 1, u, at, packets, file);
         at += g.l;
     }
 }

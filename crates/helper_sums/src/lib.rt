@@ -31,8 +31,8 @@ pub fn sum_packets(
     ensures { piece.new ≡ helping xors g lost helper rank packets.now }
 {
     let skip = shifts::shift_in(table, helper, rank);
-    let front = past(shifts::shift_in(table, lost, g.d), skip);
-    let back = letters::lesser(piece.len(), past(size, skip));
+    let front = shifts::shift_in(table, lost, g.d).saturating_sub(skip);
+    let back = letters::lesser(piece.len(), size.saturating_sub(skip));
     if back < front + sums::BLOCK {
         add_packets(g, lost, helper, rank, size, table, packets, piece);
     } else {
@@ -40,16 +40,6 @@ pub fn sum_packets(
             g, lost, helper, rank, size, front, back, table, packets, piece,
         );
     }
-}
-
-// How far a number is past another, 0 where it isn't.
-fn past(a: usize, b: usize) -> usize
-    ensures { result ≡ a - b }
-{
-    if a < b {
-        return 0;
-    }
-    a - b
 }
 
 // The same, cleared and then packet by packet.
@@ -71,12 +61,10 @@ fn add_packets(
     let skip = shifts::shift_in(table, helper, rank);
     windows::clear(piece);
     let mut end = 0;
-    let mut j = 0;
-    while j < g.d {
-        j += 1;
+    for j in 0..g.d {
         let start = end;
         end = start + size;
-        let lead = shifts::shift_in(table, lost, j);
+        let lead = shifts::shift_in(table, lost, j + 1);
         windows::add_seen(piece, &packets[start..end], skip, lead);
     }
 }
@@ -115,11 +103,9 @@ fn packet_starts(g: Group, helper: usize, size: usize) -> [usize; 16]
 {
     let mut starts = [0usize; 16];
     let mut start = 0;
-    let mut j = 0;
-    while j < g.d {
+    for j in 0..g.d {
         starts[j] = start;
         start += size;
-        j += 1;
     }
     starts
 }

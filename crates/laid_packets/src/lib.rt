@@ -31,12 +31,10 @@ pub fn lay_packets(
 {
     let shifts = rows::shift_row(table, node);
     let mut end = 0;
-    let mut j = 0;
-    while j < g.d {
-        j += 1;
+    for j in 0..g.d {
         let start = end;
         end = start + size;
-        lay_packet(g, node, j, size, &shifts, file, &mut packets[start..end]);
+        lay_packet(g, node, j + 1, size, &shifts, file, &mut packets[start..end]);
     }
 }
 

@@ -14,11 +14,9 @@ pub fn starts(g: Group, ids: &[usize]) -> [usize; 17]
 {
     let mut starts = [0usize; 17];
     let mut end = 0;
-    let mut v = 0;
-    while v < ids.len() {
-        end += lengths::known::node(g, ids[v]);
-        v += 1;
-        starts[v] = end;
+    for (v, id) in ids.iter().enumerate() {
+        end += lengths::known::node(g, *id);
+        starts[v + 1] = end;
     }
     starts
 }

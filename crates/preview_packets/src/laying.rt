@@ -32,13 +32,11 @@ fn add_sequences(g: Group, node: usize, file: &[u8], packet: &mut [u8])
     windows::clear(packet);
     let mut shift = 0;
     let mut end = 0;
-    let mut u = 0;
-    while u < g.k {
+    for u in 0..g.k {
         let start = end;
         end = start + g.l;
         adding::add_run(packet, shift, &file[start..end]);
         shift += node;
-        u += 1;
     }
 }
 
@@ -61,11 +59,9 @@ fn sequence_starts(g: Group) -> [usize; 16]
 {
     let mut starts = [0usize; 16];
     let mut start = 0;
-    let mut u = 0;
-    while u < g.k {
+    for u in 0..g.k {
         starts[u] = start;
         start += g.l;
-        u += 1;
     }
     starts
 }

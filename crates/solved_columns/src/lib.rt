@@ -28,10 +28,8 @@ pub fn recover_columns(g: Group, ids: &[usize], rows: &[usize], buffer: &mut [u8
     requires { (Collected g ids.now buffer.old) × (RowsOf t ids.now rows.now) }
     ensures { Stage g ids.now 0 buffer.old buffer.new }
 {
-    let mut u = g.d;
-    while 0 < u {
+    for u in (1..=g.d).rev() {
         recover_column(g, ids, rows, u, buffer);
-        u -= 1;
     }
 }
 

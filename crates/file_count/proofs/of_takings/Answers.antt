@@ -14,10 +14,7 @@ returns-then-u-v c =
     (sym (own_column a.g a.ids.now a.file.now a.v a.u (omega arith)), omega arith)
 
 pub loop-w-init : goal.loop-w-init
-loop-w-init c = (omega arith, sym (sum_none_terms counts _), omega arith)
-
-pub overflow_add-w : goal.overflow_add-w
-overflow_add-w c = omega arith
+loop-w-init c = (sym (sum_none_terms counts _), omega arith)
 
 pub of_run-count-requires : goal.of_run-count-requires
 of_run-count-requires c =
@@ -27,16 +24,12 @@ of_run-count-requires c =
 pub overflow_add-count : goal.overflow_add-count
 overflow_add-count c = omega (arith, c.of_run-count.ensures.1)
 
-pub loop-w-smaller : goal.loop-w-smaller
-loop-w-smaller c = omega arith
-
 pub loop-w-preserved : goal.loop-w-preserved
 loop-w-preserved c =
     let l = c.loop-w in
     let s = c in
     let a = s.args in (
-      omega arith,
-      ap₂ ◌+◌ l.invariant.1
+      ap₂ ◌+◌ l.invariant.0
           (c.of_run-count.ensures.0
           ∙ run_as_taken a.g a.ids.now a.rows.now a.file.now s.requires.recovery.0 a.v a.u a.start (omega arith) (omega arith) (omega arith) s.requires.run.1 (l.w + 1) (omega arith) (omega arith))
           ∙ sym (sum_more counts l.w (λ y. taking_out a.g a.ids.now a.file.now a.u a.v y)),
@@ -48,7 +41,7 @@ returns c =
     let l = c.loop-w in
     let a = c.args in
     let done : l.w ≡ a.v = omega arith in (
-      l.invariant.1
+      l.invariant.0
           ∙ ap (λ m. sum counts m (λ y. taking_out a.g a.ids.now a.file.now a.u a.v y)) done
           ∙ sym (earlier_column a.g a.ids.now a.file.now a.v a.u (omega arith)),
       omega arith,

@@ -10,7 +10,4 @@ use Rattle.sequences.specs.Steps.Windows.{Summed}
 use Rattle.helper_sums.proofs.add_packets.Given as goal
 
 abbrev pub invariant-loop-j : goal.invariant-loop-j
-invariant-loop-j l = (l.j ≤ l.g.d) × (length l.piece ≡ length l.initial.piece) × (l.end ≡ packet_start l.g l.helper (l.j + 1)) × Summed l.j (t l.helper l.rank) (t l.lost) (held_letter xors l.g l.helper l.packets) l.piece
-
-abbrev pub decreases-loop-j : goal.decreases-loop-j
-decreases-loop-j l = l.g.d - l.j
+invariant-loop-j l = (length l.piece ≡ length l.initial.piece) × (l.end ≡ packet_start l.g l.helper (l.j + 1)) × Summed l.j (t l.helper l.rank) (t l.lost) (held_letter xors l.g l.helper l.packets) l.piece

@@ -9,38 +9,25 @@ use Rattle.matrix.proofs.Product.{packet_same, packet_first, packet_next}
 use Rattle.helper_sums.proofs.packet_starts.Goals as goal
 
 pub loop-j-init : goal.loop-j-init
-loop-j-init c = (omega arith, refl, sym (packet_first _ _), λ i h. absurd (omega arith))
-
-pub offset_bounds-starts-j : goal.offset_bounds-starts-j
-offset_bounds-starts-j c = omega arith
-
-pub bounds-starts-j : goal.bounds-starts-j
-bounds-starts-j c = omega arith
+loop-j-init c = (refl, sym (packet_first _ _), λ i h. absurd (omega arith))
 
 pub overflow_add-start : goal.overflow_add-start
 overflow_add-start c =
     let s = c in
     let l = c.loop-j in
-    omega (arith, node_at_most s.args.g s.args.helper s.requires.0, packet_fits s.args.g s.args.helper s.requires.0 (l.j + 1) (omega arith) (omega arith), l.invariant.2, s.requires.1, packet_same s.args.g s.args.helper 1 (l.j + 1))
-
-pub overflow_add-j : goal.overflow_add-j
-overflow_add-j c = omega arith
-
-pub loop-j-smaller : goal.loop-j-smaller
-loop-j-smaller c = omega arith
+    omega (arith, node_at_most s.args.g s.args.helper s.requires.0, packet_fits s.args.g s.args.helper s.requires.0 (l.j + 1) (omega arith) (omega arith), l.invariant.1, s.requires.1, packet_same s.args.g s.args.helper 1 (l.j + 1))
 
 pub loop-j-preserved : goal.loop-j-preserved
 loop-j-preserved c =
     let s = c in
     let l = c.loop-j in
     let sized = s.requires.1 ∙ packet_same s.args.g s.args.helper 1 (l.j + 1) in (
-      omega arith,
-      simp length-set l.invariant.1,
-      ap₂ ◌+◌ l.invariant.2 sized ∙ sym (packet_next s.args.g s.args.helper (l.j + 1) (omega arith)),
-      filled_more l.starts l.j _ _ (omega arith) l.invariant.3 l.invariant.2,
+      simp length-set l.invariant.0,
+      ap₂ ◌+◌ l.invariant.1 sized ∙ sym (packet_next s.args.g s.args.helper (l.j + 1) (omega arith)),
+      filled_more l.starts l.j _ _ (omega arith) l.invariant.2 l.invariant.1,
     )
 
 pub returns : goal.returns
 returns c =
     let l = c.loop-j in
-    record { size = l.invariant.1; packets = λ j h. l.invariant.3 j (omega arith) }
+    record { size = l.invariant.0; packets = λ j h. l.invariant.2 j (omega arith) }
