@@ -61,7 +61,7 @@ pub fn compare_all(nodes: &Nodes, file: &[u8]) -> Found
     let mut found = Found::Nobody;
     for v in 0..nodes.ids.len() {
         found = compare_next(nodes, file, v, found);
-        if matches!(found, Found::Several) {
+        if found == Found::Several {
             return found;
         }
     }
