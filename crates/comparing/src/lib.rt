@@ -13,7 +13,8 @@ ghost use Rattle.matching.specs.Same.{SameFor};
 use group::Group;
 use matching_windows as windows;
 use matrix::entries;
-use sequences::rows;
+use sequences::moved::Moved;
+use sequences::rows::{self, Tabled};
 
 // How many letters of what the node holds, from the front and through all its packets, are those that the file gives it.
 pub fn right_letters(g: Group, node: usize, file: &[u8], held: &[u8]) -> usize
@@ -23,7 +24,7 @@ pub fn right_letters(g: Group, node: usize, file: &[u8], held: &[u8]) -> usize
 {
     let table = shifts::all();
     let size = lengths::known::widened_in(&table, g, node);
-    let shifts = rows::shift_row(&table, node);
+    let shifts = rows::row(&Tabled { table: &table }, node);
     right_packets(g, node, size, &shifts, file, held)
 }
 
@@ -71,9 +72,15 @@ fn right_packet(
 {
     let starts = entries::column_starts(g, column);
     let rows = laid_packets::rows_used(g, column);
+    let runs = Moved {
+        from: file,
+        size: g.l,
+        starts: &starts[0..rows],
+        leads: shifts,
+    };
     let widest = size - g.l;
     if g.l < widest + sums::BLOCK {
-        return windows::seen(held, file, g.l, &starts, shifts, rows, 0);
+        return windows::seen(held, &runs, 0);
     }
-    windows::same(held, file, g.l, &starts, shifts, rows, widest, g.l)
+    windows::same(held, &runs, widest, g.l)
 }

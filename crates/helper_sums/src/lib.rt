@@ -11,7 +11,9 @@ ghost use Rattle.helper_sums.specs.Steps.Checked.{Helper};
 ghost use Rattle.helper_sums.specs.Steps.Starts.{PacketStarts, Middle};
 
 use group::Group;
-use sequences::{moved, rows, windows};
+use sequences::moved::Moved;
+use sequences::rows::{self, Tabled};
+use sequences::windows;
 
 // The sum over the helper's packets, of `size` letters each. Where at least a block of the piece has a letter of every packet, each letter there is written once; else every packet is a
 // run that is added, since what the two ends cost would be more than is saved.
@@ -89,11 +91,15 @@ fn lay_packets(
     ensures { piece.new ≡ helping xors g lost helper rank packets.now }
 {
     let starts = packet_starts(g, helper, size);
-    let leads = rows::shift_row(table, lost);
+    let leads = rows::row(&Tabled { table }, lost);
     let skip = shifts::shift_in(table, helper, rank);
-    moved::lay_sum(
-        piece, packets, size, &starts, &leads, g.d, skip, front, back,
-    );
+    let runs = Moved {
+        from: packets,
+        size,
+        starts: &starts[0..g.d],
+        leads: &leads,
+    };
+    runs.lay_sum(piece, skip, front, back);
 }
 
 // Where the helper's packets start, of `size` letters each. The helper stands in the contract alone.

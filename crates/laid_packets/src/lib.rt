@@ -13,7 +13,8 @@ ghost use Rattle.laid_packets.specs.Steps.Rows.{RowsUsed};
 
 use group::Group;
 use matrix::entries;
-use sequences::{moved, rows};
+use sequences::moved::Moved;
+use sequences::rows::{self, Tabled};
 
 // The d packets, one after another, all of `size` letters.
 pub fn lay_packets(
@@ -29,7 +30,7 @@ pub fn lay_packets(
     requires lengths { (length file.now ≡ file_letters g) × (length packets.old ≡ node_letters g node) }
     ensures { packets.new ≡ product xors g file.now node }
 {
-    let shifts = rows::shift_row(table, node);
+    let shifts = rows::row(&Tabled { table }, node);
     let mut end = 0;
     for j in 0..g.d {
         let start = end;
@@ -55,17 +56,13 @@ fn lay_packet(
 {
     let starts = entries::column_starts(g, column);
     let rows = rows_used(g, column);
-    moved::lay_sum(
-        letters,
-        file,
-        g.l,
-        &starts,
-        shifts,
-        rows,
-        0,
-        size - g.l,
-        g.l,
-    );
+    let runs = Moved {
+        from: file,
+        size: g.l,
+        starts: &starts[0..rows],
+        leads: shifts,
+    };
+    runs.lay_sum(letters, 0, size - g.l, g.l);
 }
 
 // How many rows of a column are to be summed: the others are in the zero corner.

@@ -13,6 +13,7 @@ use Rattle.ids.specs.Ids.{among}
 use Rattle.sequences.specs.Lists.{ranked}
 use Rattle.sequences.proofs.Lists.{length_run, is_run}
 use Rattle.comparing_nodes.specs.declared.Found.{Found}
+use Rattle.comparing_nodes.specs.Steps.Noting.{wrong_of, rank_of}
 use Rattle.odd_report.specs.declared.Standing.{Standing}
 use Rattle.odd_report.specs.declared.Standing.TheVariants.{Absent, Agreeing, Unknown, Odd}
 use Rattle.odd_report.specs.declared.Node.{Node}
@@ -58,13 +59,13 @@ unfolding nodes_where
 are_nodes ids standing nodes long each = is_run (node_with Absent) 16 (λ i. node_with (standing_in ids standing i)) nodes long each
 
 -- the id of the odd one
-pub odd_named : (ids : List ℕ) (found : Found) → found.wrong ≡ 1 → odd_id ids found ≡ ranked ids found.rank
+pub odd_named : (ids : List ℕ) (found : Found) → wrong_of found ≡ 1 → odd_id ids found ≡ ranked ids (rank_of found)
 unfolding odd_id
-odd_named ids found e = simp (eq-eqb found.wrong 1 e) refl
+odd_named ids found e = simp (eq-eqb (wrong_of found) 1 e) refl
 
-pub odd_none : (ids : List ℕ) (found : Found) → (found.wrong ≡ 1 → ⊥) → odd_id ids found ≡ 0
+pub odd_none : (ids : List ℕ) (found : Found) → (wrong_of found ≡ 1 → ⊥) → odd_id ids found ≡ 0
 unfolding odd_id
-odd_none ids found ne = simp (ne_eqb found.wrong 1 ne) refl
+odd_none ids found ne = simp (ne_eqb (wrong_of found) 1 ne) refl
 
 pub length_absent : length all_absent ≡ 16
 unfolding nodes_where

@@ -10,4 +10,4 @@ use Rattle.sequences.specs.Steps.Windows.{Summed}
 use Rattle.helper_sums.proofs.add_packets.Given as goal
 
 abbrev pub invariant-loop-j : goal.invariant-loop-j
-invariant-loop-j l = (length l.piece ≡ length l.initial.piece) × (l.end ≡ packet_start l.g l.helper (l.j + 1)) × Summed l.j (t l.helper l.rank) (t l.lost) (held_letter xors l.g l.helper l.packets) l.piece
+invariant-loop-j l = (length l.piece ≡ length l.initial.piece) × (l.end ≡ packet_start l.fn.g l.helper (l.j + 1)) × Summed l.j (t l.helper l.rank) (t l.lost) (held_letter xors l.fn.g l.helper l.packets) l.piece

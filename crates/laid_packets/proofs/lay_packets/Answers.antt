@@ -21,7 +21,7 @@ overflow_add-end c =
     omega (arith, node_at_most s.args.g s.args.node s.requires.node.0, packet_fits s.args.g s.args.node s.requires.node.0 (l.j + 1) (omega arith) (omega arith), l.invariant.1, s.requires.node.1, packet_same s.args.g s.args.node 1 (l.j + 1))
 
 pub slice_bounds-lay_packet-end : goal.slice_bounds-lay_packet-end
-slice_bounds-lay_packet-end c = sym c.shift_row-shifts.ensures.size
+slice_bounds-lay_packet-end c = sym c.row-shifts.ensures.size
 
 pub slice_bounds-lay_packet-end-in-loop-j : goal.slice_bounds-lay_packet-end-in-loop-j
 slice_bounds-lay_packet-end-in-loop-j c =
@@ -33,7 +33,7 @@ pub lay_packet-requires : goal.lay_packet-requires
 lay_packet-requires c =
     let s = c in
     let l = c.loop-j in
-    let sized = s.requires.node.1 ∙ packet_same s.args.g s.args.node 1 (l.j + 1) in record { shifts = c.shift_row-shifts.ensures; node = (s.requires.node.0, omega arith, omega arith, sized, omega arith); lengths = (s.requires.lengths.0, lent s.args.g s.args.node s.requires.node.0 l.packets l.j _ _ (omega arith) (l.invariant.0 ∙ s.requires.lengths.1) l.invariant.1 sized) }
+    let sized = s.requires.node.1 ∙ packet_same s.args.g s.args.node 1 (l.j + 1) in record { shifts = c.row-shifts.ensures; node = (s.requires.node.0, omega arith, omega arith, sized, omega arith); lengths = (s.requires.lengths.0, lent s.args.g s.args.node s.requires.node.0 l.packets l.j _ _ (omega arith) (l.invariant.0 ∙ s.requires.lengths.1) l.invariant.1 sized) }
 
 pub loop-j-preserved : goal.loop-j-preserved
 loop-j-preserved c =
