@@ -1,5 +1,5 @@
 // The report.
-ghost use Rattle.std.specs.Prelude.{◌≡◌, ◌×◌, Ok, Err, tt};
+ghost use Rattle.std.specs.Prelude.{◌≡◌, Ok, Err};
 ghost use Rattle.comparing_nodes.specs.Steps.Noting.{wrong_of, place_of};
 ghost use Rattle.odd_report.specs.Standings.{standing_in, nodes_where, all_absent};
 ghost use Rattle.odd_report.specs.Steps.ByCount.{standing_by, odd_id, Named};
