@@ -1,8 +1,8 @@
--- `of_other` meets its contract: of its own sequence a rank takes nothing.
+-- `Run::of_other` meets its contract: of its own sequence a rank takes nothing.
 use mathlib.Core.Path.{sym, ◌∙◌}
 use native.Mathlib.Omega.{arith}
 use Rattle.counting.proofs.Taken.{other_own, other_apart}
-use Rattle.counting.proofs.of_other.Goals as goal
+use Rattle.counting.proofs.Run.of_other.Goals as goal
 
 pub returns-then-a-b : goal.returns-then-a-b
 returns-then-a-b c =
