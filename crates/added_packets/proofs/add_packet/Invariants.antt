@@ -1,6 +1,6 @@
 -- `summing::add_packet` meets its contract: after each turn one entry more is in the sum, and `start` is where the next one starts.
 use mathlib.Core.Path.{◌≡◌}
-use Prim.Native.Nat.{◌≤◌, ◌+◌, ◌-◌}
+use Prim.Native.Nat.{◌+◌}
 use lib.ListN.{length}
 use Rattle.letters.specs.Algebra.{xors}
 use Rattle.shifts.specs.Rule.{t}

@@ -1,6 +1,6 @@
 -- `summing::add_packets` meets its contract: after j turns the first j packets stand one after another at the front, up to `end`, and the rest is zero.
 use mathlib.Core.Path.{◌≡◌}
-use Prim.Native.Nat.{ℕ, ◌≤◌, ◌+◌, ◌-◌}
+use Prim.Native.Nat.{ℕ, ◌≤◌, ◌+◌}
 use lib.ListN.{length, get_or, take}
 use Rattle.letters.specs.Algebra.{xors}
 use Rattle.lengths.specs.Lengths.{packet_start}

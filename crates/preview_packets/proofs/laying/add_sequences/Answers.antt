@@ -1,6 +1,6 @@
 -- `laying::add_sequences` meets its contract: after u turns the first u sequences are in the sum, `end` is where the next one starts, and `shift` how far it is moved.
 use mathlib.Core.Path.{◌≡◌, sym, ap, subst, ◌∙◌}
-use Prim.Native.Nat.{◌+◌, ◌-◌}
+use Prim.Native.Nat.{◌+◌}
 use native.Mathlib.Nat.{zero-mul, mul-zero}
 use native.Mathlib.Omega.{arith}
 use lib.ListN.{length-take}

@@ -1,6 +1,6 @@
 -- `laying::add_sequences` meets its contract: after u turns the first u sequences are in the sum, `end` is where the next one starts, and `shift` how far it is moved.
 use mathlib.Core.Path.{◌≡◌}
-use Prim.Native.Nat.{◌+◌, ◌-◌, ◌*◌, ◌≤◌}
+use Prim.Native.Nat.{◌+◌, ◌*◌}
 use lib.ListN.{length}
 use Rattle.shifts.specs.Rule.{preview_shift}
 use Rattle.system.specs.System.{sequence}

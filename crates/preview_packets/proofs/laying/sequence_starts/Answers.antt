@@ -1,6 +1,6 @@
 -- `laying::sequence_starts` meets its contract: after u turns the first u starts stand in the array, and `start` is where the next sequence starts.
 use mathlib.Core.Path.{refl, sym, ap, ◌∙◌}
-use Prim.Native.Nat.{◌+◌, ◌-◌}
+use Prim.Native.Nat.{◌+◌}
 use native.Mathlib.Nat.{zero-mul, mul-le-mul}
 use native.Mathlib.Omega.{arith}
 use lib.ListN.{length-set}

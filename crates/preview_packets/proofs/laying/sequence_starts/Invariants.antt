@@ -1,6 +1,6 @@
 -- `laying::sequence_starts` meets its contract: after u turns the first u starts stand in the array, and `start` is where the next sequence starts.
 use mathlib.Core.Path.{◌≡◌}
-use Prim.Native.Nat.{ℕ, ◌-◌, ◌*◌, ◌≤◌, ◌<◌}
+use Prim.Native.Nat.{ℕ, ◌*◌, ◌<◌}
 use lib.ListN.{length, get_or}
 use Rattle.preview_packets.proofs.laying.sequence_starts.Given as goal
 

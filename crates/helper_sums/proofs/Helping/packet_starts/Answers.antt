@@ -6,7 +6,7 @@ use lib.ListN.{length-set}
 use Rattle.sums.proofs.Filled.{filled_more}
 use Rattle.lengths.proofs.Sizes.{node_at_most, packet_fits}
 use Rattle.matrix.proofs.Product.{packet_same, packet_first, packet_next}
-use Rattle.helper_sums.proofs.packet_starts.Goals as goal
+use Rattle.helper_sums.proofs.Helping.packet_starts.Goals as goal
 
 pub loop-j-init : goal.loop-j-init
 loop-j-init c = (refl, sym (packet_first _ _), λ i h. absurd (omega arith))
@@ -15,15 +15,15 @@ pub overflow_add-start : goal.overflow_add-start
 overflow_add-start c =
     let s = c in
     let l = c.loop-j in
-    omega (arith, node_at_most s.args.g s.args.helper s.requires.0, packet_fits s.args.g s.args.helper s.requires.0 (l.j + 1) (omega arith) (omega arith), l.invariant.1, s.requires.1, packet_same s.args.g s.args.helper 1 (l.j + 1))
+    omega (arith, node_at_most s.args.self.now.g s.args.self.now.helper s.args.self.now.nodes.other, packet_fits s.args.self.now.g s.args.self.now.helper s.args.self.now.nodes.other (l.j + 1) (omega arith) (omega arith), l.invariant.1, s.args.self.now.sized, packet_same s.args.self.now.g s.args.self.now.helper 1 (l.j + 1))
 
 pub loop-j-preserved : goal.loop-j-preserved
 loop-j-preserved c =
     let s = c in
     let l = c.loop-j in
-    let sized = s.requires.1 ∙ packet_same s.args.g s.args.helper 1 (l.j + 1) in (
+    let sized = s.args.self.now.sized ∙ packet_same s.args.self.now.g s.args.self.now.helper 1 (l.j + 1) in (
       simp length-set l.invariant.0,
-      ap₂ ◌+◌ l.invariant.1 sized ∙ sym (packet_next s.args.g s.args.helper (l.j + 1) (omega arith)),
+      ap₂ ◌+◌ l.invariant.1 sized ∙ sym (packet_next s.args.self.now.g s.args.self.now.helper (l.j + 1) (omega arith)),
       filled_more l.starts l.j _ _ (omega arith) l.invariant.2 l.invariant.1,
     )
 
