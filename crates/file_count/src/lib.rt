@@ -62,14 +62,7 @@ fn of_entry(
 }
 
 // Those that take entry (v,u) out of the entries (w,v), w <= v: none if that is its own column.
-fn of_takings(
-    g: Group,
-    ids: &[usize],
-    rows: &[usize],
-    u: usize,
-    v: usize,
-    run: &Run,
-) -> usize
+fn of_takings(g: Group, ids: &[usize], rows: &[usize], u: usize, v: usize, run: &Run) -> usize
     requires recovery { (Recovery g ids.now rows.now run.now.buffer.now) × (1 ≤ u) × (u ≤ g.d) × (1 ≤ v) × (v ≤ min u g.k) }
     requires run { (run.now.n ≡ g.l) × (run.now.start ≡ (entry_number g.k v u - 1) * g.l) }
     ensures { (result ≡ taking_terms g ids.now run.now.buffer.now u v) × (result ≤ entry_most) }

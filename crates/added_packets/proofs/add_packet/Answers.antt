@@ -15,18 +15,18 @@ use Rattle.added_packets.proofs.add_packet.Goals as goal
 pub loop-above-init : goal.loop-above-init
 loop-above-init c =
     let s = c in
-    (refl, c.free_start-start.ensures.0 ∙ first_start s.args.g s.args.column (omega arith), summed_none 0 _ _ _ s.requires.lengths.2)
+    (refl, c.free_start-start.ensures.0 ∙ first_start s.args.encoding.now.g s.args.column (omega arith), summed_none 0 _ _ _ s.requires.letters.1)
 
 pub add_entry-requires : goal.add_entry-requires
 add_entry-requires c =
     let s = c in
     let l = c.loop-above in
-    record { table = s.requires.table; node = (s.requires.node.0, omega arith, omega arith, omega arith, omega arith, l.invariant.1); lengths = (s.requires.lengths.0, l.invariant.0 ∙ s.requires.lengths.1) }
+    record { entry = (omega arith, omega arith, omega arith, omega arith, l.invariant.1); letters = l.invariant.0 ∙ s.requires.letters.0 }
 
 pub next_start-start-requires : goal.next_start-start-requires
 next_start-start-requires c =
     let s = c in
-    record { entry = (s.requires.node.0.group, omega arith, omega arith, omega arith, omega arith); start = c.loop-above.invariant.1 }
+    record { entry = (s.args.encoding.now.known.group, omega arith, omega arith, omega arith, omega arith); start = c.loop-above.invariant.1 }
 
 pub loop-above-preserved : goal.loop-above-preserved
 loop-above-preserved c =
@@ -44,8 +44,8 @@ unfolding packet packet_letter
 returns c =
     let s = c in
     let a = c.args in
-    let done : s.loop-above.above ≡ a.g.d = omega arith in
-    summed_run (packet_length a.g a.node a.column) a.g.d 0 (t a.node) (λ u. matrix xors a.g a.file.now u a.column)
-    (packet_letter xors a.g a.file.now a.node a.column) s.loop-above.letters (s.loop-above.invariant.0 ∙ c.requires.lengths.1)
-    (subst (λ m. Summed m 0 (t a.node) (λ u. matrix xors a.g a.file.now u a.column) s.loop-above.letters) done s.loop-above.invariant.2)
-    (λ p. ap (moved xors a.g.d (t a.node) (λ u. matrix xors a.g a.file.now u a.column)) (sym (add-zero p)))
+    let done : s.loop-above.above ≡ a.encoding.now.g.d = omega arith in
+    summed_run (packet_length a.encoding.now.g a.encoding.now.node a.column) a.encoding.now.g.d 0 (t a.encoding.now.node) (λ u. matrix xors a.encoding.now.g a.encoding.now.file.now u a.column)
+    (packet_letter xors a.encoding.now.g a.encoding.now.file.now a.encoding.now.node a.column) s.loop-above.letters (s.loop-above.invariant.0 ∙ c.requires.letters.0)
+    (subst (λ m. Summed m 0 (t a.encoding.now.node) (λ u. matrix xors a.encoding.now.g a.encoding.now.file.now u a.column) s.loop-above.letters) done s.loop-above.invariant.2)
+    (λ p. ap (moved xors a.encoding.now.g.d (t a.encoding.now.node) (λ u. matrix xors a.encoding.now.g a.encoding.now.file.now u a.column)) (sym (add-zero p)))

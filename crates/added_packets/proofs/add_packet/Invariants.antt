@@ -9,4 +9,4 @@ use Rattle.sequences.specs.Steps.Windows.{Summed}
 use Rattle.added_packets.proofs.add_packet.Given as goal
 
 abbrev pub invariant-loop-above : goal.invariant-loop-above
-invariant-loop-above l = (length l.letters ≡ length l.initial.letters) × (l.start ≡ entry_start l.g (l.above + 1) l.column) × Summed l.above 0 (t l.node) (λ u. matrix xors l.g l.file u l.column) l.letters
+invariant-loop-above l = (length l.letters ≡ length l.initial.letters) × (l.start ≡ entry_start l.encoding.g (l.above + 1) l.column) × Summed l.above 0 (t l.encoding.node) (λ u. matrix xors l.encoding.g l.encoding.file.now u l.column) l.letters

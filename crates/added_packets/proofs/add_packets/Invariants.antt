@@ -9,4 +9,4 @@ use Rattle.matrix.specs.Matrix.{packet}
 use Rattle.added_packets.proofs.add_packets.Given as goal
 
 abbrev pub invariant-loop-j : goal.invariant-loop-j
-invariant-loop-j l = (length l.packets ≡ length l.initial.packets) × (l.end ≡ packet_start l.g l.node (l.j + 1)) × (take l.end l.packets ≡ joined l.j (packet xors l.g l.file l.node)) × ((q : ℕ) → l.end ≤ q → get_or l.packets q 0 ≡ 0)
+invariant-loop-j l = (length l.packets ≡ length l.initial.packets) × (l.end ≡ packet_start l.encoding.g l.encoding.node (l.j + 1)) × (take l.end l.packets ≡ joined l.j (packet xors l.encoding.g l.encoding.file.now l.encoding.node)) × ((q : ℕ) → l.end ≤ q → get_or l.packets q 0 ≡ 0)

@@ -1,5 +1,5 @@
 -- `pull_runs` meets its contract: after each turn one later column more is taken out.
-use Prim.Native.Nat.{◌-◌, ◌≤◌}
+use Prim.Native.Nat.{◌-◌}
 use Rattle.column_runs.specs.Steps.Runs.{from_next, Grown}
 use Rattle.column_runs.proofs.pull_runs.Given as goal
 

@@ -1,6 +1,6 @@
 -- `of_column` meets its contract: after every turn one entry more is in the sum.
 use mathlib.Core.Path.{◌≡◌, sym, ap, ap₂, ◌∙◌}
-use Prim.Native.Nat.{◌+◌, ◌-◌, min}
+use Prim.Native.Nat.{◌+◌, min}
 use native.Mathlib.Omega.{arith}
 use Rattle.letters.specs.Algebra.{counts, sum}
 use Rattle.letters.proofs.Sums.{sum_more, sum_none_terms}

@@ -1,6 +1,6 @@
 -- `of_column` meets its contract: after every turn one entry more is in the sum.
 use mathlib.Core.Path.{◌≡◌}
-use Prim.Native.Nat.{◌+◌, ◌-◌, ◌*◌, ◌≤◌}
+use Prim.Native.Nat.{◌+◌, ◌*◌, ◌≤◌}
 use Rattle.letters.specs.Algebra.{counts, sum}
 use Rattle.file_count.specs.Steps.Terms.{solving_terms, taking_terms, entry_most}
 use Rattle.file_count.proofs.of_column.Given as goal

@@ -1,6 +1,6 @@
 -- `of_file` meets its contract: after every turn one column more is in the sum. The first has no terms.
 use mathlib.Core.Path.{◌≡◌, sym, ap, ap₂, ◌∙◌}
-use Prim.Native.Nat.{ℕ, ◌+◌, ◌-◌}
+use Prim.Native.Nat.{ℕ, ◌+◌}
 use native.Mathlib.Omega.{arith}
 use Rattle.letters.specs.Algebra.{Adding, counts, sum}
 use Rattle.letters.proofs.Sums.{none_plus, sum_more}

@@ -1,6 +1,6 @@
 -- `of_file` meets its contract: after every turn one column more is in the sum. The first has no terms.
 use mathlib.Core.Path.{◌≡◌}
-use Prim.Native.Nat.{◌+◌, ◌-◌, ◌*◌, ◌≤◌}
+use Prim.Native.Nat.{◌+◌, ◌*◌, ◌≤◌}
 use Rattle.letters.specs.Algebra.{counts, sum}
 use Rattle.file_count.specs.Steps.Terms.{column_terms, entry_most}
 use Rattle.file_count.proofs.of_file.Given as goal

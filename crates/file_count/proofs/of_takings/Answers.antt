@@ -1,6 +1,6 @@
 -- `of_takings` meets its contract: after every turn one entry more is in the sum.
 use mathlib.Core.Path.{◌≡◌, sym, ap, ap₂, ◌∙◌}
-use Prim.Native.Nat.{◌+◌, ◌-◌}
+use Prim.Native.Nat.{◌+◌}
 use native.Mathlib.Omega.{arith}
 use Rattle.letters.specs.Algebra.{counts, sum}
 use Rattle.letters.proofs.Sums.{sum_more, sum_none_terms}

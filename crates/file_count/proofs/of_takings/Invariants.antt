@@ -1,6 +1,6 @@
 -- `of_takings` meets its contract: after every turn one entry more is in the sum.
 use mathlib.Core.Path.{◌≡◌}
-use Prim.Native.Nat.{◌-◌, ◌*◌, ◌^◌, ◌≤◌}
+use Prim.Native.Nat.{◌*◌, ◌^◌, ◌≤◌}
 use Rattle.letters.specs.Algebra.{counts, sum}
 use Rattle.matrix.specs.Counts.{taking_out}
 use Rattle.file_count.proofs.of_takings.Given as goal
