@@ -24,9 +24,8 @@ pub fn pull_blocks(
     let to = entries::free_start(g, w, v) + wide;
     let mut starts = [0usize; 16];
     starts[0] = to;
-    let mut u = v;
-    while u < g.d {
-        u += 1;
+    for before in v..g.d {
+        let u = before + 1;
         let moved = column_runs::moved_by(g, ids, rows, w, u);
         starts[u - v] = entries::free_start(g, v, u) + wide - moved;
     }

@@ -25,10 +25,8 @@ pub fn pull_runs(
     requires { (Entry g ids.now rows.now v w) × (length buffer.old ≡ file_letters g) × (end ≤ g.l) }
     ensures { Grown g v w 0 end (from_next g ids.now buffer.old v w (g.d - v)) buffer.old buffer.new }
 {
-    let mut u = v;
-    while u < g.d {
-        u += 1;
-        pull_run(g, ids, rows, v, w, u, end, buffer);
+    for u in v..g.d {
+        pull_run(g, ids, rows, v, w, u + 1, end, buffer);
     }
 }
 

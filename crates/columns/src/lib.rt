@@ -19,10 +19,8 @@ pub fn pull_column(g: Group, ids: &[usize], rows: &[usize], v: usize, buffer: &m
     if g.k < v {
         return;
     }
-    let mut w = 0;
-    while w < v {
-        w += 1;
-        pull_entry(g, ids, rows, v, w, buffer);
+    for w in 0..v {
+        pull_entry(g, ids, rows, v, w + 1, buffer);
     }
 }
 

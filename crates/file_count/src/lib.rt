@@ -5,9 +5,9 @@
 ghost use Rattle.std.specs.Prelude.{◌≡◌, ◌+◌, ◌-◌, ◌*◌, ◌≤◌, min};
 ghost use Rattle.matrix.specs.Matrix.{entry_number};
 ghost use Rattle.matrix.specs.Counts.{recovery_count};
-ghost use Rattle.counting.specs.Steps.Taken.{Counted};
 ghost use Rattle.file_count.specs.Steps.Terms.{Recovery, solving_terms, taking_terms, column_terms, entry_most};
 
+use counting::Run;
 use group::Group;
 use matrix::entries;
 
@@ -18,10 +18,8 @@ pub fn of_file(g: Group, ids: &[usize], rows: &[usize], file: &[u8]) -> usize
     ensures { result ≡ recovery_count g ids.now file.now }
 {
     let mut count: usize = 0;
-    let mut u = 1;
-    while u < g.d {
-        u += 1;
-        count += of_column(g, ids, rows, u, file);
+    for u in 1..g.d {
+        count += of_column(g, ids, rows, u + 1, file);
     }
     count
 }
@@ -33,10 +31,8 @@ fn of_column(g: Group, ids: &[usize], rows: &[usize], u: usize, file: &[u8]) -> 
 {
     let s = letters::lesser(u, g.k);
     let mut count: usize = 0;
-    let mut v = 0;
-    while v < s {
-        v += 1;
-        count += of_entry(g, ids, rows, u, s, v, file);
+    for v in 0..s {
+        count += of_entry(g, ids, rows, u, s, v + 1, file);
     }
     count
 }
@@ -55,34 +51,28 @@ fn of_entry(
     ensures { (result ≡ solving_terms g ids.now file.now u v + taking_terms g ids.now file.now u v) × (result ≤ entry_most + entry_most) }
 {
     let start = entries::free_start(g, v, u);
-    let whole = worth::count(file, start, g.l);
-    let solving = counting::of_others(file, start, g.l, whole, rows, s, v);
-    solving + of_takings(g, ids, rows, u, v, start, whole, file)
+    let run = Run {
+        buffer: file,
+        start,
+        n: g.l,
+        whole: worth::count(file, start, g.l),
+    };
+    let solving = run.of_others(rows, s, v);
+    solving + of_takings(g, ids, rows, u, v, &run)
 }
 
 // Those that take entry (v,u) out of the entries (w,v), w <= v: none if that is its own column.
-fn of_takings(
-    g: Group,
-    ids: &[usize],
-    rows: &[usize],
-    u: usize,
-    v: usize,
-    start: usize,
-    whole: usize,
-    file: &[u8],
-) -> usize
-    requires recovery { (Recovery g ids.now rows.now file.now) × (1 ≤ u) × (u ≤ g.d) × (1 ≤ v) × (v ≤ min u g.k) }
-    requires run { (Counted file.now start g.l whole) × (start ≡ (entry_number g.k v u - 1) * g.l) }
-    ensures { (result ≡ taking_terms g ids.now file.now u v) × (result ≤ entry_most) }
+fn of_takings(g: Group, ids: &[usize], rows: &[usize], u: usize, v: usize, run: &Run) -> usize
+    requires recovery { (Recovery g ids.now rows.now run.now.buffer.now) × (1 ≤ u) × (u ≤ g.d) × (1 ≤ v) × (v ≤ min u g.k) }
+    requires run { (run.now.n ≡ g.l) × (run.now.start ≡ (entry_number g.k v u - 1) * g.l) }
+    ensures { (result ≡ taking_terms g ids.now run.now.buffer.now u v) × (result ≤ entry_most) }
 {
     if u <= v {
         return 0;
     }
     let mut count: usize = 0;
-    let mut w = 0;
-    while w < v {
-        w += 1;
-        count += counting::of_run(file, start, g.l, whole, rows, w, u);
+    for w in 0..v {
+        count += run.of_run(rows, w + 1, u);
     }
     count
 }

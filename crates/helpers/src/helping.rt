@@ -6,6 +6,7 @@ ghost use Rattle.helpers.specs.Calls.{helper_refusal, Helped};
 ghost use Rattle.helper_sums.specs.Steps.Checked.{Helper};
 
 use group::{Group, Refusal};
+use helper_sums::Helping;
 
 // Fills `piece` with what the helper of this rank sends for the lost node: letters t(h,u)+1 .. t(h,u)+L' of r, the sum of its packets
 // each moved right by the lost node's shift. `packets` has exactly the helper's T letters (else 5) and `piece` exactly L' (else 6).
@@ -72,6 +73,15 @@ fn help_exact(
     let size = lengths::known::widened_in(&table, g, helper);
     let wanted = lengths::known::widened_in(&table, g, lost);
     group_checks::lengths(packets.len(), g.d * size, piece.len(), wanted)?;
-    helper_sums::sum_packets(g, lost, helper, rank, size, &table, packets, piece);
+    let helping = Helping {
+        g,
+        lost,
+        helper,
+        rank,
+        size,
+        table: &table,
+        packets,
+    };
+    helping.sum_packets(piece);
     Ok(0)
 }

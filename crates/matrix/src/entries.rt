@@ -47,11 +47,9 @@ pub fn column_starts(g: Group, column: usize) -> [usize; 16]
 {
     let mut starts = [0usize; 16];
     let mut start = free_start(g, 1, column);
-    let mut row = 0;
-    while row < g.d {
+    for row in 0..g.d {
         starts[row] = start;
-        row += 1;
-        start = next_start(g, row, column, start);
+        start = next_start(g, row + 1, column, start);
     }
     starts
 }

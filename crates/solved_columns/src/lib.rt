@@ -12,14 +12,15 @@ ghost use Rattle.solved_columns.specs.Steps.Recovery.{Column, Stage};
 
 use group::Group;
 use matrix::entries;
-use sequences::rows;
+use sequences::rows::{self, Tabled};
 
 // Turns the pieces in `buffer` into the one file that has them, in place.
 pub fn recover(g: Group, ids: &[usize], buffer: &mut [u8])
     requires { Collected g ids.now buffer.old }
     ensures { (length buffer.new ≡ file_letters g) × (reading xors g buffer.new ids.now ≡ buffer.old) }
 {
-    let rows = rows::shift_rows(ids);
+    let table = shifts::all();
+    let rows = rows::of(&Tabled { table: &table }, ids);
     recover_columns(g, ids, &rows, buffer);
 }
 
@@ -28,10 +29,8 @@ pub fn recover_columns(g: Group, ids: &[usize], rows: &[usize], buffer: &mut [u8
     requires { (Collected g ids.now buffer.old) × (RowsOf t ids.now rows.now) }
     ensures { Stage g ids.now 0 buffer.old buffer.new }
 {
-    let mut u = g.d;
-    while 0 < u {
+    for u in (1..=g.d).rev() {
         recover_column(g, ids, rows, u, buffer);
-        u -= 1;
     }
 }
 

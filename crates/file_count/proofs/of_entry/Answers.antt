@@ -1,5 +1,5 @@
 -- `of_entry` meets its contract: the entry is a run of the file, whose letters are counted once for both sums.
-use mathlib.Core.Path.{ap, ap₂, ◌∙◌}
+use mathlib.Core.Path.{refl, ap, ap₂, ◌∙◌}
 use Prim.Native.Nat.{◌+◌}
 use native.Mathlib.Omega.{arith}
 use Rattle.counting.specs.Steps.Taken.{others_terms}
@@ -8,7 +8,10 @@ use Rattle.file_count.proofs.of_entry.Goals as goal
 
 pub of_takings-requires : goal.of_takings-requires
 of_takings-requires c =
-    let s = c in record { recovery = (s.requires.0, omega arith, omega arith, omega arith, omega arith); run = (record { fits = omega (arith, s.requires.0.long, c.free_start-start.ensures.1); all = c.count-whole.ensures }, c.free_start-start.ensures.0) }
+    let s = c in record { recovery = (s.requires.0, omega arith, omega arith, omega arith, omega arith); run = (refl, c.free_start-start.ensures.0) }
+
+pub invariant_of-run : goal.invariant_of-run
+invariant_of-run c = record { counted = record { fits = omega (arith, c.requires.0.long, c.free_start-start.ensures.1); all = c.count.ensures } }
 
 pub returns : goal.returns
 returns c =

@@ -5,8 +5,8 @@ use Rattle.matrix.proofs.ChosenRanks.{known}
 use Rattle.solved_columns.proofs.Stages.{stage_end}
 use Rattle.solved_columns.proofs.recover.Goals as goal
 
-pub shift_rows-rows-requires : goal.shift_rows-rows-requires
-shift_rows-rows-requires c = known _ _ _ c.requires.chosen (omega arith)
+pub of-rows-requires : goal.of-rows-requires
+of-rows-requires c = known _ _ _ c.requires.chosen (omega arith)
 
 pub returns : goal.returns
 returns c = (c.recover_columns.ensures.same_length ∙ c.requires.long, stage_end _ _ _ _ c.requires c.recover_columns.ensures)

@@ -15,11 +15,6 @@ returns-then-row-column c =
     let s = c in
     ap (λ m. m + s.args.g.l) s.requires.start ∙ sym (start_beside s.args.g s.requires.entry.0 s.args.row s.args.column (omega arith) (omega arith) (omega arith))
 
-pub overflow_mul-result : goal.overflow_mul-result
-overflow_mul-result c =
-    let s = c in
-    omega (arith, start_at_most s.args.g s.requires.entry.0 (s.args.row + 1) s.args.column (omega arith) (omega arith) (omega arith) (omega arith), start_below s.args.g s.requires.entry.0 s.args.row s.args.column (omega arith) (omega arith) (omega arith), ap (λ m. m * s.args.g.l) c.lesser.ensures)
-
 pub overflow_add-result-2 : goal.overflow_add-result-2
 overflow_add-result-2 c =
     let s = c in

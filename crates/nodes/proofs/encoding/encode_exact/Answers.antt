@@ -18,7 +18,13 @@ pub encode_packets-requires : goal.encode_packets-requires
 encode_packets-requires c =
     let s = c in
     let w = exact_lengths _ _ _ _ (fine _ _ c.in_ok-lengths.was c.lengths.ensures) in
-    record { table = c.all-table.ensures; node = (s.requires, wide_packet s.args.g s.args.node _ c.widened_in-size.ensures.0); lengths = (w.0 ∙ c.file-wanted_file.ensures, w.1 ∙ wide_node s.args.g s.args.node _ c.widened_in-size.ensures.0) }
+    w.1 ∙ wide_node s.args.g s.args.node _ c.widened_in-size.ensures.0
+
+pub invariant_of-encoding : goal.invariant_of-encoding
+invariant_of-encoding c =
+    let s = c in
+    let w = exact_lengths _ _ _ _ (fine _ _ c.in_ok-lengths.was c.lengths.ensures) in
+    record { shifts = c.all-table.ensures; known = s.requires; sized = wide_packet s.args.g s.args.node _ c.widened_in-size.ensures.0; whole = w.0 ∙ c.file-wanted_file.ensures }
 
 pub returns-in_err-lengths : goal.returns-in_err-lengths
 unfolding encode_refusal

@@ -15,7 +15,7 @@ use Rattle.sequences.specs.Steps.Windows.{Seen, Adds, Summed}
 use Rattle.matrix.proofs.Product.{packet_same, packet_first, packet_next}
 use Rattle.sequences.proofs.Summing.{part_adds, summed_none, summed_more, summed_run}
 use native.Mathlib.Omega.{arith}
-use Rattle.helper_sums.proofs.add_packets.Goals as goal
+use Rattle.helper_sums.proofs.Helping.add_packets.Goals as goal
 
 -- a packet is a part of what the helper holds, which the window sees moved right by the lost node's shift
 packet_adds :
@@ -33,43 +33,42 @@ packet_adds g helper lost rank n held before after j start size skip lead last l
 pub loop-j-init : goal.loop-j-init
 loop-j-init c =
     let s = c in
-    (omega arith, refl, sym (packet_first s.args.g s.args.helper), summed_none _ _ _ _ c.clear.ensures.zeros)
+    (refl, sym (packet_first s.args.self.now.g s.args.self.now.helper), summed_none _ _ _ _ c.clear.ensures.zeros)
 
 pub overflow_add-end : goal.overflow_add-end
 overflow_add-end c =
     let s = c in
     let l = c in
-    omega (arith, node_at_most s.args.g s.args.helper s.requires.helper.0.other, packet_fits s.args.g s.args.helper s.requires.helper.0.other (l.loop-j.j + 1) (omega arith) (omega arith), l.loop-j.invariant.2, s.requires.helper.1, packet_same s.args.g s.args.helper 1 (l.loop-j.j + 1))
+    omega (arith, node_at_most s.args.self.now.g s.args.self.now.helper s.args.self.now.nodes.other, packet_fits s.args.self.now.g s.args.self.now.helper s.args.self.now.nodes.other (l.loop-j.j + 1) (omega arith) (omega arith), l.loop-j.invariant.1, s.args.self.now.sized, packet_same s.args.self.now.g s.args.self.now.helper 1 (l.loop-j.j + 1))
 
 pub slice_bounds-add_seen-end : goal.slice_bounds-add_seen-end
 slice_bounds-add_seen-end c =
     let s = c in
     let l = c in
-    omega (arith, s.requires.lengths.0, packet_fits s.args.g s.args.helper s.requires.helper.0.other (l.loop-j.j + 1) (omega arith) (omega arith), l.loop-j.invariant.2, s.requires.helper.1, packet_same s.args.g s.args.helper 1 (l.loop-j.j + 1))
+    omega (arith, s.args.self.now.held, packet_fits s.args.self.now.g s.args.self.now.helper s.args.self.now.nodes.other (l.loop-j.j + 1) (omega arith) (omega arith), l.loop-j.invariant.1, s.args.self.now.sized, packet_same s.args.self.now.g s.args.self.now.helper 1 (l.loop-j.j + 1))
 
 pub loop-j-preserved : goal.loop-j-preserved
 loop-j-preserved c =
     let s = c in
     let l = c in
-    let sized = s.requires.helper.1 ∙ packet_same s.args.g s.args.helper 1 (l.loop-j.j + 1) in (
-      omega arith,
-      c.add_seen.ensures.same_length ∙ l.loop-j.invariant.1,
-      ap₂ ◌+◌ l.loop-j.invariant.2 sized ∙ sym (packet_next s.args.g s.args.helper (l.loop-j.j + 1) (omega arith)),
-      summed_more l.loop-j.j _ _ _ _ _ l.loop-j.invariant.3
-          (packet_adds s.args.g s.args.helper s.args.lost s.args.rank s.requires.helper.0.other s.args.packets.now _ _ l.loop-j.j _ _ _ _ (omega arith) s.requires.lengths.0 l.loop-j.invariant.2 sized c.shift_in-skip.ensures c.shift_in-lead.ensures c.add_seen.ensures),
+    let sized = s.args.self.now.sized ∙ packet_same s.args.self.now.g s.args.self.now.helper 1 (l.loop-j.j + 1) in (
+      c.add_seen.ensures.same_length ∙ l.loop-j.invariant.0,
+      ap₂ ◌+◌ l.loop-j.invariant.1 sized ∙ sym (packet_next s.args.self.now.g s.args.self.now.helper (l.loop-j.j + 1) (omega arith)),
+      summed_more l.loop-j.j _ _ _ _ _ l.loop-j.invariant.2
+          (packet_adds s.args.self.now.g s.args.self.now.helper s.args.self.now.lost s.args.self.now.rank s.args.self.now.nodes.other s.args.self.now.packets.now _ _ l.loop-j.j _ _ _ _ (omega arith) s.args.self.now.held l.loop-j.invariant.1 sized c.skip-skip.ensures c.shift_in-lead.ensures c.add_seen.ensures),
     )
 
 pub shape_of-piece : goal.shape_of-piece
-shape_of-piece c = c.loop-j.invariant.1 ∙ c.clear.ensures.same_length
+shape_of-piece c = c.loop-j.invariant.0 ∙ c.clear.ensures.same_length
 
 pub returns : goal.returns
 unfolding helping helper_sum
 returns c =
     let l = c in
     let s = c in
-    let a = s.args in
+    let a = s.args.self.now in
     let done : l.loop-j.j ≡ a.g.d = omega arith in
     summed_run (repair_letters a.g a.lost) a.g.d (t a.helper a.rank) (t a.lost) (held_letter xors a.g a.helper a.packets.now)
-    (λ p. helper_sum xors a.g a.lost a.helper a.packets.now (p + t a.helper a.rank)) l.loop-j.piece (l.loop-j.invariant.1 ∙ c.clear.ensures.same_length ∙ s.requires.lengths.1)
-    (subst (λ m. Summed m (t a.helper a.rank) (t a.lost) (held_letter xors a.g a.helper a.packets.now) l.loop-j.piece) done l.loop-j.invariant.3)
+    (λ p. helper_sum xors a.g a.lost a.helper a.packets.now (p + t a.helper a.rank)) l.loop-j.piece (l.loop-j.invariant.0 ∙ c.clear.ensures.same_length ∙ s.requires)
+    (subst (λ m. Summed m (t a.helper a.rank) (t a.lost) (held_letter xors a.g a.helper a.packets.now) l.loop-j.piece) done l.loop-j.invariant.2)
     (λ p. refl)

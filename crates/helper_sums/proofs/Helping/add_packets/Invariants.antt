@@ -7,10 +7,7 @@ use Rattle.shifts.specs.Rule.{t}
 use Rattle.lengths.specs.Lengths.{packet_start}
 use Rattle.matrix.specs.Repair.{held_letter}
 use Rattle.sequences.specs.Steps.Windows.{Summed}
-use Rattle.helper_sums.proofs.add_packets.Given as goal
+use Rattle.helper_sums.proofs.Helping.add_packets.Given as goal
 
 abbrev pub invariant-loop-j : goal.invariant-loop-j
-invariant-loop-j l = (l.j ≤ l.g.d) × (length l.piece ≡ length l.initial.piece) × (l.end ≡ packet_start l.g l.helper (l.j + 1)) × Summed l.j (t l.helper l.rank) (t l.lost) (held_letter xors l.g l.helper l.packets) l.piece
-
-abbrev pub decreases-loop-j : goal.decreases-loop-j
-decreases-loop-j l = l.g.d - l.j
+invariant-loop-j l = (length l.piece ≡ length l.initial.piece) × (l.end ≡ packet_start l.self.g l.self.helper (l.j + 1)) × Summed l.j (t l.self.helper l.self.rank) (t l.self.lost) (held_letter xors l.self.g l.self.helper l.self.packets.now) l.piece
