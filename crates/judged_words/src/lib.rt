@@ -6,7 +6,7 @@ mod runs;
 
 use heads::Head;
 use judging::Judgment;
-pub use runs::{Run, end, next, start};
+pub use runs::sweep;
 
 // The number.
 pub fn number(judgment: Judgment) -> usize {

@@ -33,9 +33,7 @@ pub fn answer(answer: Answer) {
 // Some words, and numbers after them.
 pub fn numbers(words: &[u8], numbers: &[usize]) {
     lines::say(words);
-    let mut i = 0;
-    while i < numbers.len() {
-        lines::number(b" ", numbers[i]);
-        i += 1;
+    for number in numbers {
+        lines::number(b" ", *number);
     }
 }

@@ -1,4 +1,4 @@
-// The calls on shares by their numbers in a script (docs/SCRIPTS.md).
+// The calls on shares by their numbers in a script (docs/SCRIPTS.md). The numbers are the scripts' own: so they are matched as they come.
 #![tactic(auto)]
 
 mod sweep;
@@ -33,16 +33,24 @@ fn stored(line: Line, from: &[u8], into: &mut [u8]) -> Answer {
     }
 }
 
-// The call that a line names: 23 judges, 24 reads, 25 judges what is in B with every byte at an index, 26 tells how many bytes can stand, and 29
-// writes the judge's line. The others are those above.
-pub fn call(line: Line, from: &[u8], into: &mut [u8]) {
+// The calls on shares themselves: 23 judges, 24 reads, 25 judges what is in B with every byte at an index, and 26 tells how many bytes can stand. The others
+// are those above.
+pub fn of_shares(line: Line, from: &[u8], into: &mut [u8]) {
     let operation = line.operation;
     match operation {
         23 => judgment(share::judge(from)),
         24 => judgment(share::read(from, into)),
         25 => sweep::every_byte(into, line.own),
         26 => script::answer(Answer::Value(share::good_bytes(from))),
-        29 => judges_line(from),
         _ => script::answer(stored(line, from, into)),
+    }
+}
+
+// The call that a line names: 29 writes the judge's line, and the others are those above.
+pub fn call(line: Line, from: &[u8], into: &mut [u8]) {
+    if line.operation == 29 {
+        judges_line(from);
+    } else {
+        of_shares(line, from, into);
     }
 }
