@@ -1,7 +1,6 @@
 // Bytes handed over in bursts of any lengths, some to `after` and some, through `lending`, to `take`, which must do the same.
 ghost use Rattle.std.specs.Prelude.{◌≤◌, length};
 
-use crate::words;
 use arriving::Arriving;
 
 // All bytes from the start, in bursts of a size, with an empty one after each: where it is told, a digit for the judgment after each. Bursts of no bytes are
@@ -38,7 +37,7 @@ fn cut_at(bytes: &[u8], cut: usize, whole: Arriving)
     let (front, behind) = bytes.split_at(cut);
     let first = Arriving::start().after(front);
     judged_words::digit(first.judge());
-    if words::of(lending::taken(first, behind)) != words::of(whole) {
+    if lending::taken(first, behind) != whole {
         lines::say(b"!");
     }
 }

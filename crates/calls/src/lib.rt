@@ -2,12 +2,12 @@
 // [n,k,d] and L, and then the call's own; ids come last.
 #![tactic(auto)]
 
-use group::Answer;
+use group::Refusal;
 use script_line::Line;
 
 // A piece is put at the start of the slice that is lent, so that what is handed back is seen there; refused, it is empty. The answer is
 // its companion's.
-fn piece(line: Line, from: &[u8], into: &mut [u8]) -> Answer {
+fn piece(line: Line, from: &[u8], into: &mut [u8]) -> Result<usize, Refusal> {
     let g = line.group;
     let (node, rank, column) = (line.first, line.second, line.third);
     lines::put(into, 0, store::pieces::piece(g, node, rank, column, from));
@@ -15,7 +15,7 @@ fn piece(line: Line, from: &[u8], into: &mut [u8]) -> Answer {
 }
 
 // 11 encode, 12 piece, 13 help, 14 recover, 15 repair; 16 to 19 lengths and places. The numbers are the scripts' own: so they are matched as they come.
-fn of_store(line: Line, ids: &[usize], from: &[u8], into: &mut [u8]) -> Answer {
+fn of_store(line: Line, ids: &[usize], from: &[u8], into: &mut [u8]) -> Result<usize, Refusal> {
     let g = line.group;
     let operation = line.operation;
     match operation {

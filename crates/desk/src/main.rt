@@ -15,9 +15,9 @@ fn run(text: &[u8]) {
         marks::read(line, b'<', &mut memory);
         let before = memory;
         let made = lines::part_mut(&mut memory, 0, lines::count(line, b'>'));
-        let answer = turn::call(line, if n < 9 { 2 } else { 1 }, &before, made);
+        let number = turn::call(line, if n < 9 { 2 } else { 1 }, &before, made);
         let place = turn::place(line, &before);
-        if marks::compare(line, lines::outcome(answer), place, &memory) {
+        if marks::compare(line, number, place, &memory) {
             agreed += 1;
         }
     }

@@ -1,6 +1,5 @@
 // The call of a line.
-use group::{Answer, Group};
-use share::Judgment;
+use group::Group;
 
 // What is called.
 enum Call {
@@ -24,29 +23,20 @@ fn call_of(line: &[u8]) -> Call {
     }
 }
 
-// What bytes are judged to be.
-fn judged(bytes: &[u8]) -> Answer {
-    match share::judge(bytes) {
-        Judgment::Complete(_) => Answer::Value(0),
-        Judgment::Refused(refusal) => Answer::Refused(refusal),
-        Judgment::Malformed(refusal, _) => Answer::Refused(refusal),
-    }
-}
-
-// The call of a line, with its two ids. The lost node is node 2, and the batch is 7.
-fn called(line: &[u8], g: Group, a: usize, b: usize, from: &[u8], made: &mut [u8]) -> Answer {
-    match call_of(line) {
+// What comes out of a line's call, with its two ids: a count, or a refusal's number. The lost node is node 2, and the batch is 7.
+fn called(line: &[u8], g: Group, a: usize, b: usize, from: &[u8], made: &mut [u8]) -> usize {
+    lines::outcome(match call_of(line) {
         Call::Encode => store::encoding::encode(g, a, from, made),
         Call::Help => store::helping::help(g, 2, a, b, from, made),
         Call::Recover => store::recovery::recover(g, &[a, b], made),
         Call::Repair => store::repairing::repair(g, 2, &[a, b], made),
         Call::Write => share::write(g, a, 7, from, made),
-        Call::Judge => judged(from),
-    }
+        Call::Judge => Ok(judged_words::number(share::judge(from))),
+    })
 }
 
 // The same in [3,2,2]. It is handed the first letters of the memory, and puts what it makes into `made`.
-pub fn call(line: &[u8], l: usize, memory: &[u8], made: &mut [u8]) -> Answer {
+pub fn call(line: &[u8], l: usize, memory: &[u8], made: &mut [u8]) -> usize {
     let a = marks::number(line, b'@', 0);
     let b = marks::number(line, b'@', 1);
     let from = marks::handed(line, memory);

@@ -3,7 +3,8 @@
 #![tactic(auto)]
 
 use group::Group;
-use share::Judgment;
+use heads::Head;
+use share::Fault;
 
 pub fn six() -> Group {
     group::of(6, 3, 4, 16)
@@ -20,21 +21,21 @@ pub fn bytes(node: usize) -> usize {
 }
 
 // What the first bytes on a node's disk are judged to be.
-pub fn judge(node: usize, bytes: usize, disks: &[u8]) -> Judgment {
+pub fn judge(node: usize, bytes: usize, disks: &[u8]) -> Result<Head, Fault> {
     share::judge(lines::part(disks, node % 7 * 146, bytes))
 }
 
 // The same for a text: 0 complete, 1 unfinished, 2 malformed.
-pub fn choice(judgment: Judgment) -> usize {
+pub fn choice(judgment: Result<Head, Fault>) -> usize {
     match judgment {
-        Judgment::Complete(_) => 0,
-        Judgment::Refused(_) => 1,
-        Judgment::Malformed(_, _) => 2,
+        Ok(_) => 0,
+        Err(Fault::Refused(_)) => 1,
+        Err(Fault::Malformed(_, _)) => 2,
     }
 }
 
 // Tells line n of a text, which is about a judgment: its choice, its number and its place.
-pub fn tell_judged(text: &[u8], n: usize, judgment: Judgment) {
+pub fn tell_judged(text: &[u8], n: usize, judgment: Result<Head, Fault>) {
     let number = judged_words::number(judgment);
     let place = judged_words::place(judgment);
     marks::tell(text, n, &[choice(judgment), number, place]);

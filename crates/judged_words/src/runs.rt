@@ -1,27 +1,17 @@
 // What each of some numbers makes of bytes, in runs of the same: `0-0 8 at 0, 1-1 0, 2-255 8 at 0`.
-use judging::Judgment;
+use heads::Head;
+use judging::Fault;
 
-// What is found for a number: a judgment's number and place.
-#[derive(Clone, Copy, PartialEq, Eq)]
-struct Found {
-    number: usize,
-    place: usize,
-}
-
-// The same for all numbers from `first` on, or nothing.
+// What is found for the numbers from `first` on: a share, whichever it is, or what is wrong; or nothing.
 #[derive(Clone, Copy)]
 struct Run {
     first: u8,
-    found: Option<Found>,
+    found: Option<Result<(), Fault>>,
 }
 
-impl Found {
-    fn of(judgment: Judgment) -> Found {
-        Found {
-            number: crate::number(judgment),
-            place: crate::place(judgment),
-        }
-    }
+// What is found by a judgment.
+fn found(judgment: Result<Head, Fault>) -> Result<(), Fault> {
+    judgment.map(|_| ())
 }
 
 // Writes a run that ends with the number `last`.
@@ -30,13 +20,14 @@ fn end(run: Run, last: u8) {
     lines::number(b"-", usize::from(last));
     lines::say(b" ");
     match run.found {
-        Some(found) => crate::say(found.number, found.place),
+        Some(Ok(())) => lines::decimal(0),
+        Some(Err(fault)) => crate::fault(fault),
         None => lines::say(b"none"),
     }
 }
 
 // The run that `at` is in, with what is found for it. Where that is something else than before, the run before it is written.
-fn next(run: Run, at: u8, found: Option<Found>) -> Run {
+fn next(run: Run, at: u8, found: Option<Result<(), Fault>>) -> Run {
     if found == run.found {
         return run;
     }
@@ -46,15 +37,15 @@ fn next(run: Run, at: u8, found: Option<Found>) -> Run {
 }
 
 // What `judge` says of each number below 256, from 0 on: a judgment, or nothing.
-pub fn sweep<F: FnMut(u8) -> Option<Judgment>>(mut judge: F)
+pub fn sweep<F: FnMut(u8) -> Option<Result<Head, Fault>>>(mut judge: F)
     requires { F.IsAlwaysCallable judge }
 {
     let mut run = Run {
         first: 0,
-        found: judge(0).map(Found::of),
+        found: judge(0).map(found),
     };
     for number in 1..=255 {
-        run = next(run, number, judge(number).map(Found::of));
+        run = next(run, number, judge(number).map(found));
     }
     end(run, 255);
 }

@@ -1,5 +1,5 @@
 // Words, numbers and letters on standard output.
-use group::Answer;
+use group::Refusal;
 
 // Standard output's descriptor.
 const STDOUT: i32 = 1;
@@ -44,17 +44,11 @@ pub fn checksum(letters: &[u8]) -> usize {
 }
 
 // An answer's value; a refusal carries 0.
-pub fn value(answer: Answer) -> usize {
-    match answer {
-        Answer::Value(value) => value,
-        Answer::Refused(_) => 0,
-    }
+pub fn value(answer: Result<usize, Refusal>) -> usize {
+    answer.unwrap_or(0)
 }
 
 // An answer's value, or its refusal's number.
-pub fn outcome(answer: Answer) -> usize {
-    match answer {
-        Answer::Value(value) => value,
-        Answer::Refused(refusal) => group::refusal_number(refusal),
-    }
+pub fn outcome(answer: Result<usize, Refusal>) -> usize {
+    answer.unwrap_or_else(group::refusal_number)
 }

@@ -1,12 +1,12 @@
 // What is written of a report: its number, a sign for each of the sixteen nodes, and the place of what is wrong.
-use group::Check;
+use group::Refusal;
 use odd_one::{Node, Report, Standing};
 
 // The number of the refusal; 0 where there is none.
-fn number(check: Check) -> usize {
+fn number(check: Result<(), Refusal>) -> usize {
     match check {
-        Check::Fine => 0,
-        Check::Refused(refusal) => group::refusal_number(refusal),
+        Ok(()) => 0,
+        Err(refusal) => group::refusal_number(refusal),
     }
 }
 

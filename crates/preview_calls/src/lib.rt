@@ -2,18 +2,18 @@
 // d is 0 in a group of previews, and then the call's own, which are a node and a rank, or the ids.
 #![tactic(auto)]
 
-use group::{Answer, Group};
+use group::{Group, Refusal};
 use script_line::Line;
 
 // A piece is put at the start of the slice that is lent, so that what is handed back is seen there; refused, it is empty. The answer is
 // its companion's.
-fn piece(g: Group, node: usize, rank: usize, from: &[u8], into: &mut [u8]) -> Answer {
+fn piece(g: Group, node: usize, rank: usize, from: &[u8], into: &mut [u8]) -> Result<usize, Refusal> {
     lines::put(into, 0, preview::pieces::piece(g, node, rank, from));
     preview::pieces::piece_start(g, node, rank, from.len())
 }
 
 // 41 encode, 42 piece, 43 recover; 44 and 45 lengths, 46 where a piece goes. The numbers are the scripts' own: so they are matched as they come.
-fn of_previews(line: Line, ids: &[usize], from: &[u8], into: &mut [u8]) -> Answer {
+fn of_previews(line: Line, ids: &[usize], from: &[u8], into: &mut [u8]) -> Result<usize, Refusal> {
     let g = line.group;
     let operation = line.operation;
     match operation {

@@ -1,6 +1,6 @@
 // What is written behind a line. Each of these words is written by a function that does little else: what is proved of a literal grows
 // with all that is at hand beside it.
-use group::Answer;
+use group::Refusal;
 
 // A heading has nothing behind it.
 pub fn nothing() {
@@ -26,7 +26,7 @@ fn told(number: usize, value: usize) {
 }
 
 // An answer: its number in the table of document 01 (docs/SCHEME.md, 11), 0 where nothing is refused, and its value.
-pub fn answer(answer: Answer) {
+pub fn answer(answer: Result<usize, Refusal>) {
     told(group::answer_number(answer), lines::value(answer));
 }
 

@@ -3,12 +3,13 @@
 
 mod sweep;
 
-use group::Answer;
+use group::Refusal;
+use heads::Head;
 use script_line::Line;
-use share::Judgment;
+use share::Fault;
 
 // A judgment.
-fn judgment(judgment: Judgment) {
+fn judgment(judgment: Result<Head, Fault>) {
     lines::say(b": ");
     judged_words::tell(judgment);
 }
@@ -22,7 +23,7 @@ fn judges_line(bytes: &[u8]) {
 }
 
 // The calls that are handed a group and a node: 21 writes a share with a batch number, and 22 tells how long it is; 27 and 28 do it for previews.
-fn stored(line: Line, from: &[u8], into: &mut [u8]) -> Answer {
+fn stored(line: Line, from: &[u8], into: &mut [u8]) -> Result<usize, Refusal> {
     let operation = line.operation;
     let batch = (line.second % 4294967296) as u32;
     match operation {
@@ -41,7 +42,7 @@ pub fn of_shares(line: Line, from: &[u8], into: &mut [u8]) {
         23 => judgment(share::judge(from)),
         24 => judgment(share::read(from, into)),
         25 => sweep::every_byte(into, line.own),
-        26 => script::answer(Answer::Value(share::good_bytes(from))),
+        26 => script::answer(Ok(share::good_bytes(from))),
         _ => script::answer(stored(line, from, into)),
     }
 }
