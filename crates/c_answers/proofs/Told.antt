@@ -1,19 +1,20 @@
 -- How an answer is told to C: its number is returned, and its value stands where it was asked for.
+use Rattle.std.specs.Prelude.{Ok, Err}
 use mathlib.Core.Path.{◌≡◌, refl, sym, ap, ◌∙◌}
 use mathlib.Core.List.{List}
 use Prim.Native.Nat.{ℕ, zero, suc}
 use Rattle.group.specs.declared.Refusal.{Refusal}
-use Rattle.group.specs.declared.Answer.{Answer}
+use Rattle.group.specs.Answers.{Answer}
 use Rattle.group.specs.Answers.{Called, SolvesInPlace, number_of, value_of, if_fine, Answers}
 use Rattle.group.proofs.Refusals.{never_zero, if_refused, if_fine_lem}
 use Rattle.c_answers.specs.Exports.{Tells, Fills, SolvesTold}
 
 -- a value stands in the lent number
-pub value_told : (a : Answer) (v m : ℕ) → a ≡ Answer.Value v → v ≡ if_fine (number_of a) (value_of a) m
+pub value_told : (a : Answer) (v m : ℕ) → a ≡ Ok v → v ≡ if_fine (number_of a) (value_of a) m
 value_told a v m e = rw e refl
 
 -- a refusal leaves the lent number as it was
-pub kept : (a : Answer) (r : Refusal) (m : ℕ) → a ≡ Answer.Refused r → m ≡ if_fine (number_of a) (value_of a) m
+pub kept : (a : Answer) (r : Refusal) (m : ℕ) → a ≡ Err r → m ≡ if_fine (number_of a) (value_of a) m
 kept a r m e = sym (if_refused (number_of a) (value_of a) m (λ z. never_zero r (ap number_of (sym e) ∙ z)))
 
 once : (q v m : ℕ) → if_fine q (if_fine q v 0) m ≡ if_fine q v m

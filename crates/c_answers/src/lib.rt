@@ -4,17 +4,17 @@
 ghost use Rattle.std.specs.Prelude.{◌≡◌};
 ghost use Rattle.group.specs.Answers.{number_of, value_of, if_fine};
 
-use group::Answer;
+use group::Refusal;
 
 // Returns an answer's number. Where there is no refusal its value goes to `into`, which else stays as it was.
-pub fn tell(answer: Answer, into: &mut usize) -> usize
+pub fn tell(answer: Result<usize, Refusal>, into: &mut usize) -> usize
     ensures { (result ≡ number_of answer) × (into.new ≡ if_fine (number_of answer) (value_of answer) into.old) }
 {
     match answer {
-        Answer::Value(value) => {
+        Ok(value) => {
             *into = value;
             0
         }
-        Answer::Refused(refusal) => group::refusal_number(refusal),
+        Err(refusal) => group::refusal_number(refusal),
     }
 }

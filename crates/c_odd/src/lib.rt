@@ -6,7 +6,7 @@ ghost use Rattle.group.specs.Answers.{check_number};
 ghost use Rattle.group.specs.Ranges.{group_of};
 ghost use Rattle.c_odd.specs.Odd.{state_number, place_number, report_numbers, told_refusal, Names, Shown};
 
-use group::{Check, Group, Refusal};
+use group::{Group, Refusal};
 use odd_one::{Node, Standing};
 
 // A node's state: 0 absent, 1 agreeing, 2 unknown, 3 odd.
@@ -50,13 +50,11 @@ fn put(nodes: [Node; 16], report: &mut [usize])
 }
 
 // Whether the call is refused, for a report of so many numbers.
-fn check(g: Group, ids: &[usize], packets: usize, file: usize, report: usize) -> Check
+fn check(g: Group, ids: &[usize], packets: usize, file: usize, report: usize) -> Result<(), Refusal>
     ensures { check_number result ≡ told_refusal g ids.now packets file report }
 {
-    match odd_one::check(g, ids, packets, file) {
-        Check::Refused(refusal) => Check::Refused(refusal),
-        Check::Fine => group_checks::exact(report, 32, Refusal::Output),
-    }
+    odd_one::check(g, ids, packets, file)?;
+    group_checks::exact(report, 32, Refusal::Output)
 }
 
 // The call where it isn't refused.
@@ -86,7 +84,7 @@ pub extern "C" fn dulvaspen_odd(
 {
     let g = group::of(n, k, d, l);
     match check(g, ids, packets.len(), file.len(), report.len()) {
-        Check::Refused(refusal) => group::refusal_number(refusal),
-        Check::Fine => tell(g, ids, packets, file, report),
+        Err(refusal) => group::refusal_number(refusal),
+        Ok(()) => tell(g, ids, packets, file, report),
     }
 }

@@ -6,18 +6,18 @@ use native.Mathlib.Omega.{arith}
 use lib.Dec.{eqb}
 use lib.ListN.{length}
 use Rattle.group.specs.declared.Refusal.{Refusal}
-use Rattle.group.specs.declared.Answer.{Answer}
-use Rattle.group.specs.Answers.{refusal_number, number_of, value_of, unless, first, Answers}
+use Rattle.std.specs.Prelude.{Ok, Err}
+use Rattle.group.specs.Answers.{Answer, refusal_number, number_of, value_of, unless, first, Answers}
 use Rattle.group.proofs.Refusals.{never_zero, refuses, gives, first_fine, if_refused, if_fine_lem}
 use Rattle.group.specs.Answers.{Called, SolvesInPlace}
 
 pub call_refused :
-    (r : Refusal) (q v : ℕ) (right before : List ℕ) → refusal_number r ≡ q → Called q v right before before (Answer.Refused r)
+    (r : Refusal) (q v : ℕ) (right before : List ℕ) → refusal_number r ≡ q → Called q v right before before (Err r)
 call_refused r zero v right before e = absurd (never_zero r e)
 call_refused r (suc q) v right before e = record { answer = refuses r (suc q) v e; holds = refl }
 
 pub call_fine :
-    (q w v : ℕ) (right before after : List ℕ) → q ≡ 0 → w ≡ v → after ≡ right → Called q v right before after (Answer.Value w)
+    (q w v : ℕ) (right before after : List ℕ) → q ≡ 0 → w ≡ v → after ≡ right → Called q v right before after (Ok w)
 call_fine zero w v right before after e h is = record { answer = gives zero w v refl h; holds = is }
 call_fine (suc q) w v right before after e h is = absurd (omega arith)
 
@@ -31,7 +31,7 @@ lengths_after q a wa b wb A B z ea eb =
 -- what a refused call that solves in place leaves, and one that isn't refused
 pub solves_refused :
     (r : Refusal) (q : ℕ) (given : List ℕ → List ℕ) (worth : List ℕ → ℕ) (before : List ℕ) → refusal_number r ≡ q
-    → SolvesInPlace q given worth before before (Answer.Refused r)
+    → SolvesInPlace q given worth before before (Err r)
 solves_refused r q given worth before e =
     record {
       answer = refuses r q (worth before) e;
@@ -41,7 +41,7 @@ solves_refused r q given worth before e =
 
 pub solves_fine :
     (q count : ℕ) (given : List ℕ → List ℕ) (worth : List ℕ → ℕ) (before after : List ℕ) → q ≡ 0 → count ≡ worth after
-    → length after ≡ length before → given after ≡ before → SolvesInPlace q given worth before after (Answer.Value count)
+    → length after ≡ length before → given after ≡ before → SolvesInPlace q given worth before after (Ok count)
 solves_fine q count given worth before after e counted size is =
     record { answer = gives q count (worth after) e counted; same_length = size; holds = if_fine_lem q (given after) after e ∙ is }
 

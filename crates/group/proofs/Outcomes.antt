@@ -5,10 +5,8 @@ use Prim.Native.Nat.{ℕ, zero, suc}
 use lib.ListN.{length}
 use Rattle.group.specs.declared.Refusal.{Refusal}
 use Rattle.group.specs.declared.Refusal.TheVariants.{Numbers, Length, Ids, Order, Input, Output, Unfinished, Kind, HeadNumber, Filler, Total, AfterEnd, TooFew}
-use Rattle.group.specs.declared.Check.{Check}
-use Rattle.group.specs.declared.Answer.{Answer}
-use Rattle.group.specs.declared.Answer.TheVariants.{Value, Refused}
-use Rattle.group.specs.Answers.{refusal_number, check_number, number_of, value_of, if_fine, Answers, Called, SolvesInPlace}
+use Rattle.std.specs.Prelude.{Ok, Err}
+use Rattle.group.specs.Answers.{Answer, Check, refusal_number, check_number, number_of, value_of, if_fine, Answers, Called, SolvesInPlace}
 use Rattle.group.proofs.Refusals.{never_zero}
 
 -- the refusal of a number
@@ -50,17 +48,17 @@ refusal_once a b e = sym (named_number a) ∙ ap refusal_of e ∙ named_number b
 
 -- so two checks with one number are one
 pub check_once : (a b : Check) → check_number a ≡ check_number b → a ≡ b
-check_once Check.Fine Check.Fine e = refl
-check_once Check.Fine (Check.Refused b) e = absurd (never_zero b (sym e))
-check_once (Check.Refused a) Check.Fine e = absurd (never_zero a e)
-check_once (Check.Refused a) (Check.Refused b) e = ap Check.Refused (refusal_once a b e)
+check_once (Ok a) (Ok b) e = refl
+check_once (Ok a) (Err b) e = absurd (never_zero b (sym e))
+check_once (Err a) (Ok b) e = absurd (never_zero a e)
+check_once (Err a) (Err b) e = ap Err (refusal_once a b e)
 
 -- and two answers with one number and one value
 pub same_answer : (r s : Answer) → number_of r ≡ number_of s → value_of r ≡ value_of s → r ≡ s
-same_answer (Value v) (Value w) e h = ap Value h
-same_answer (Value v) (Refused b) e h = absurd (never_zero b (sym e))
-same_answer (Refused a) (Value w) e h = absurd (never_zero a e)
-same_answer (Refused a) (Refused b) e h = ap Refused (refusal_once a b e)
+same_answer (Ok v) (Ok w) e h = ap Ok h
+same_answer (Ok v) (Err b) e h = absurd (never_zero b (sym e))
+same_answer (Err a) (Ok w) e h = absurd (never_zero a e)
+same_answer (Err a) (Err b) e h = ap Err (refusal_once a b e)
 
 pub answer_once : (r s : Answer) (q v w : ℕ) → Answers r q v → Answers s q w → v ≡ w → r ≡ s
 answer_once r s q v w a b e =

@@ -8,9 +8,10 @@ use native.Mathlib.Omega.{arith}
 use Rattle.letters.specs.Places.{both}
 use Rattle.group.specs.declared.Refusal.{Refusal}
 use Rattle.group.specs.declared.Refusal.TheVariants.{Numbers, Length, Ids, Order, Input, Output, Unfinished, Kind, HeadNumber, Filler, Total, AfterEnd, TooFew}
-use Rattle.group.specs.declared.Check.{Check}
-use Rattle.group.specs.declared.Answer.{Answer}
-use Rattle.group.specs.Answers.{refusal_number, check_number, number_of, value_of, unless, first, if_fine, Answers}
+use Rattle.std.specs.Prelude.{Result, Ok, Err}
+use Rattle.std.specs.Result.{IsErrAnd}
+use Rattle.std.proofs.lemmas.Result.{err_from_is_err_and}
+use Rattle.group.specs.Answers.{Answer, Check, refusal_number, check_number, number_of, value_of, unless, first, if_fine, Answers}
 
 -- no refusal has the number 0
 pub never_zero : (r : Refusal) → refusal_number r ≡ 0 → ⊥
@@ -71,12 +72,12 @@ both_true false b e = (e, absurd (false≢true e))
     false≢true e = subst (λ (b : Bool). elim b as (λ _. Type 0) [ false ↦ Unit {0} | true ↦ ⊥ ]) e tt
 
 -- an answer that refuses by the number that is wanted
-pub refuses : (r : Refusal) (q v : ℕ) → refusal_number r ≡ q → Answers (Answer.Refused r) q v
+pub refuses : (r : Refusal) (q v : ℕ) → refusal_number r ≡ q → Answers (Err r) q v
 refuses r zero v e = absurd (never_zero r e)
 refuses r (suc q) v e = record { number = e; valued = refl }
 
 -- an answer that gives the wanted value where nothing refuses
-pub gives : (q w v : ℕ) → q ≡ 0 → w ≡ v → Answers (Answer.Value w) q v
+pub gives : (q w v : ℕ) → q ≡ 0 → w ≡ v → Answers (Ok w) q v
 gives zero w v e h = record { number = refl; valued = h }
 gives (suc q) w v e h = absurd (omega arith)
 
@@ -88,34 +89,38 @@ pub held : (b test : Bool) → not b ≡ false → b ≡ test → test ≡ true
 held b test n e = sym e ∙ not-false b n
 
 -- what a check found, and its number
-pub stopped : (k : Check) (r : Refusal) (a : ℕ) → k ≡ Check.Refused r → check_number k ≡ a → refusal_number r ≡ a
+pub stopped : (k : Check) (r : Refusal) (a : ℕ) → k ≡ Err r → check_number k ≡ a → refusal_number r ≡ a
 stopped k r a e h = ap check_number (sym e) ∙ h
 
-pub fine : (k : Check) (a : ℕ) → k ≡ Check.Fine → check_number k ≡ a → a ≡ 0
+pub fine : (k : Check) (a : ℕ) → k ≡ (Ok tt) → check_number k ≡ a → a ≡ 0
 fine k a e h = sym h ∙ ap check_number e
 
 -- a refusal of the first of two checks is what comes out of both; where it is fine, the second's number is
 pub passed_on :
-    (k : Check) (r : Refusal) (a b : ℕ) → k ≡ Check.Refused r → check_number k ≡ a → refusal_number r ≡ first a b
+    (k : Check) (r : Refusal) (a b : ℕ) → k ≡ Err r → check_number k ≡ a → refusal_number r ≡ first a b
 passed_on k r a b e h =
     stopped k r a e h ∙ sym (first_refused a b (λ z. never_zero r (stopped k r a e h ∙ z)))
 
-pub went_on : (k : Check) (a b n : ℕ) → k ≡ Check.Fine → check_number k ≡ a → n ≡ b → n ≡ first a b
+pub went_on : (k : Check) (a b n : ℕ) → k ≡ (Ok tt) → check_number k ≡ a → n ≡ b → n ≡ first a b
 went_on k a b n e h q = q ∙ sym (first_fine a b (fine k a e h))
 
 -- the second of two checks, where the first refuses nothing
 pub skipped : (a b n : ℕ) → a ≡ 0 → n ≡ b → n ≡ first a b
 skipped a b n z e = e ∙ sym (first_fine a b z)
 
+-- where `?` hands a refusal on, that refusal comes back
+pub handed_on : {A : Type 0} (r : Result A Refusal) (e : Refusal) → IsErrAnd r (λ x. x ≡ e) → r ≡ Err e
+handed_on r e h = let p = err_from_is_err_and r h in p.1 ∙ ap Err p.2
+
 -- what an answer that is told apart tells
-pub answered_value : (k : Answer) (w q v : ℕ) → k ≡ Answer.Value w → Answers k q v → (q ≡ 0) × (w ≡ v)
+pub answered_value : (k : Answer) (w q v : ℕ) → k ≡ Ok w → Answers k q v → (q ≡ 0) × (w ≡ v)
 answered_value k w q v e a = go q (sym a.number ∙ ap number_of e) (ap value_of (sym e) ∙ a.valued)
   where
     go : (q : ℕ) → q ≡ 0 → w ≡ if_fine q v 0 → (q ≡ 0) × (w ≡ v)
     go zero z h = (refl, h)
     go (suc q) z h = absurd (omega arith)
 
-pub answered_refusal : (k : Answer) (r : Refusal) (q v : ℕ) → k ≡ Answer.Refused r → Answers k q v → refusal_number r ≡ q
+pub answered_refusal : (k : Answer) (r : Refusal) (q v : ℕ) → k ≡ Err r → Answers k q v → refusal_number r ≡ q
 answered_refusal k r q v e a = ap number_of (sym e) ∙ a.number
 
 pub if_refused : {A : Type 0} (q : ℕ) (a b : A) → (q ≡ 0 → ⊥) → if_fine q a b ≡ b

@@ -1,9 +1,7 @@
 -- Each refusal's number in documents 01 and 02 (docs/SCHEME.md, 11), and what an answer's number and value are.
-use Rattle.std.specs.Prelude.{◌≡◌, Bool, true, false, List, ℕ, zero, suc, length}
+use Rattle.std.specs.Prelude.{◌≡◌, Bool, true, false, List, ℕ, zero, suc, length, Result, Ok, Err}
 use Rattle.group.specs.declared.Refusal.{Refusal}
 use Rattle.group.specs.declared.Refusal.TheVariants.{Numbers, Length, Ids, Order, Input, Output, Unfinished, Kind, HeadNumber, Filler, Total, AfterEnd, TooFew}
-use Rattle.group.specs.declared.Check.{Check}
-use Rattle.group.specs.declared.Answer.{Answer}
 
 -- the numbers of the table "What comes back when a call is turned down", with 8 split as Ask 2 has it
 abbrev pub refusal_number : Refusal → ℕ
@@ -21,20 +19,28 @@ refusal_number Total = 11
 refusal_number AfterEnd = 12
 refusal_number TooFew = 13
 
+-- what a check finds: nothing, or a refusal
+abbrev pub Check : Type 0
+Check = Result (Unit {0}) Refusal
+
+-- what a call answers: a number, or a refusal
+abbrev pub Answer : Type 0
+Answer = Result ℕ Refusal
+
 -- a check's number: 0 where nothing is refused
 abbrev pub check_number : Check → ℕ
-check_number Check.Fine = 0
-check_number (Check.Refused r) = refusal_number r
+check_number (Ok u) = 0
+check_number (Err r) = refusal_number r
 
 -- an answer's number: 0 where nothing is refused
 abbrev pub number_of : Answer → ℕ
-number_of (Answer.Value v) = 0
-number_of (Answer.Refused r) = refusal_number r
+number_of (Ok v) = 0
+number_of (Err r) = refusal_number r
 
 -- an answer's value; a refusal carries 0
 abbrev pub value_of : Answer → ℕ
-value_of (Answer.Value v) = v
-value_of (Answer.Refused r) = 0
+value_of (Ok v) = v
+value_of (Err r) = 0
 
 -- What comes back in the papers' numbers, where an answer carries more than one number: its values; or the number of a refusal; or that number
 -- with the place at which bytes are wrong.

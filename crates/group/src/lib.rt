@@ -7,7 +7,7 @@ ghost use Rattle.group.specs.Ranges.{group_of};
 
 // A group's numbers, any numbers: n nodes, any k of which give a batch back and any d of which rebuild a lost one,
 // and l letters in a sequence. Which numbers are allowed is what `checks` tells.
-#[derive(Clone, Copy)]
+#[derive(Clone, Copy, Debug, PartialEq, Eq)]
 pub struct Group {
     pub n: usize,
     pub k: usize,
@@ -22,8 +22,9 @@ pub fn of(n: usize, k: usize, d: usize, l: usize) -> Group
     Group { n, k, d, l }
 }
 
-// Why a call is turned down. `refusal_number` in specs/ gives the number of document 01 (docs/SCHEME.md, 11) for each.
-#[derive(Clone, Copy)]
+// Why a call is turned down. `refusal_number` in specs/ gives the number of document 01 (docs/SCHEME.md, 11) for each. A check is a `Result<(), Refusal>`; a call answers a
+// `Result<usize, Refusal>`, a number (a count, a length, a place; 0 where there is nothing to tell), or why it is refused.
+#[derive(Clone, Copy, Debug, PartialEq, Eq)]
 pub enum Refusal {
     // 1: n, k or d is outside its range.
     Numbers,
@@ -54,20 +55,6 @@ pub enum Refusal {
     TooFew,
 }
 
-// What a check finds.
-#[derive(Clone, Copy)]
-pub enum Check {
-    Fine,
-    Refused(Refusal),
-}
-
-// What a call answers: a number (a count, a length, a place; 0 where there is nothing to tell), or why it is refused.
-#[derive(Clone, Copy)]
-pub enum Answer {
-    Value(usize),
-    Refused(Refusal),
-}
-
 // A refusal's number in the table of document 01 (docs/SCHEME.md, 11).
 pub fn refusal_number(refusal: Refusal) -> usize
     ensures { result ≡ refusal_number refusal }
@@ -90,11 +77,11 @@ pub fn refusal_number(refusal: Refusal) -> usize
 }
 
 // An answer's number: 0 where nothing is refused.
-pub fn answer_number(answer: Answer) -> usize
+pub fn answer_number(answer: Result<usize, Refusal>) -> usize
     ensures { result ≡ number_of answer }
 {
     match answer {
-        Answer::Value(_) => 0,
-        Answer::Refused(refusal) => refusal_number(refusal),
+        Ok(_) => 0,
+        Err(refusal) => refusal_number(refusal),
     }
 }

@@ -5,7 +5,7 @@ ghost use Rattle.std.specs.Prelude.{◌≡◌, eqb};
 ghost use Rattle.group.specs.Answers.{check_number, first, unless, refusal_number};
 ghost use Rattle.group.specs.Ranges.{between, group_refusal, node_refusal, id_refusal, numbers_in_range, length_in_range};
 
-use group::{Check, Group, Refusal};
+use group::{Group, Refusal};
 
 // A number is one of low..high.
 pub fn is_between(low: usize, high: usize, number: usize) -> bool
@@ -41,61 +41,59 @@ pub fn length_in_range(g: Group) -> bool
 }
 
 // The group's own numbers: refusals 1 and 2.
-pub fn group(g: Group) -> Check
+pub fn group(g: Group) -> Result<(), Refusal>
     ensures { check_number result ≡ group_refusal g }
 {
     if !numbers_in_range(g) {
-        return Check::Refused(Refusal::Numbers);
+        return Err(Refusal::Numbers);
     }
     if !length_in_range(g) {
-        return Check::Refused(Refusal::Length);
+        return Err(Refusal::Length);
     }
-    Check::Fine
+    Ok(())
 }
 
 // A number is one of 1..most: else refusal 3.
-pub fn one_of(number: usize, most: usize) -> Check
+pub fn one_of(number: usize, most: usize) -> Result<(), Refusal>
     ensures { check_number result ≡ unless (between 1 most number) 3 }
 {
     if is_between(1, most, number) {
-        return Check::Fine;
+        return Ok(());
     }
-    Check::Refused(Refusal::Ids)
+    Err(Refusal::Ids)
 }
 
 // One id: refusal 3.
-pub fn id(g: Group, id: usize) -> Check
+pub fn id(g: Group, id: usize) -> Result<(), Refusal>
     ensures { check_number result ≡ id_refusal g id }
 {
     one_of(id, g.n)
 }
 
 // A group and one of its nodes: refusals 1, 2 and 3.
-pub fn node(g: Group, node: usize) -> Check
+pub fn node(g: Group, node: usize) -> Result<(), Refusal>
     ensures { check_number result ≡ node_refusal g node }
 {
-    match group(g) {
-        Check::Refused(refusal) => Check::Refused(refusal),
-        Check::Fine => id(g, node),
-    }
+    group(g)?;
+    id(g, node)
 }
 
 // A lent slice has exactly the wanted length; else the refusal that the caller names, 5 or 6.
-pub fn exact(length: usize, wanted: usize, refusal: Refusal) -> Check
+pub fn exact(length: usize, wanted: usize, refusal: Refusal) -> Result<(), Refusal>
     ensures { check_number result ≡ unless (eqb length wanted) (refusal_number refusal) }
 {
     if length == wanted {
-        return Check::Fine;
+        return Ok(());
     }
-    Check::Refused(refusal)
+    Err(refusal)
 }
 
 // A lent input of exactly one length and a lent output of exactly another: refusals 5 and 6.
-pub fn lengths(input: usize, wanted_in: usize, output: usize, wanted_out: usize) -> Check
+pub fn lengths(input: usize, wanted_in: usize, output: usize, wanted_out: usize) -> Result<(), Refusal>
     ensures { check_number result ≡ first (unless (eqb input wanted_in) 5) (unless (eqb output wanted_out) 6) }
 {
     if input != wanted_in {
-        return Check::Refused(Refusal::Input);
+        return Err(Refusal::Input);
     }
     exact(output, wanted_out, Refusal::Output)
 }

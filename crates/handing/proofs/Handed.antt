@@ -1,4 +1,5 @@
 -- A part is told by what its start is told by, and the empty part means refused: one that isn't refused has at least one letter.
+use Rattle.std.specs.Prelude.{Ok, Err}
 use mathlib.Core.Path.{◌≡◌, refl, ap, ap₂, ◌∙◌}
 use mathlib.Core.List.{List, []}
 use Prim.Native.Nat.{ℕ, zero, suc, ◌+◌, ◌≤◌}
@@ -6,13 +7,13 @@ use native.Mathlib.Omega.{arith}
 use lib.ListN.{length, take, drop, length-drop}
 use lib.Seq.{length-take-le}
 use denote.Ref.{Bor}
-use Rattle.group.specs.declared.Answer.{Answer}
+use Rattle.group.specs.Answers.{Answer}
 use Rattle.group.specs.Answers.{number_of, value_of, if_fine, Answers}
 use Rattle.group.proofs.Refusals.{if_refused, if_fine_lem}
 use Rattle.handing.specs.Parts.{PartOf, Within}
 
 -- where the part of an answered start ends
-pub within_value : (a : Answer) (v count long : ℕ) → a ≡ Answer.Value v → Within a count long → v + count ≤ long
+pub within_value : (a : Answer) (v count long : ℕ) → a ≡ Ok v → Within a count long → v + count ≤ long
 within_value a v count long e w = omega (arith, w.fits (ap number_of e), ap value_of e)
 
 module _ (count : ℕ) (lent part : Bor (List ℕ)) where

@@ -1,7 +1,7 @@
 -- A part of a lent slice that is handed back, uncopied.
 use Rattle.std.specs.Prelude.{◌≡◌, List, [], ℕ, ◌+◌, ◌≤◌, take, drop}
 use Rattle.std.specs.Borrow.{Bor}
-use Rattle.group.specs.declared.Answer.{Answer}
+use Rattle.group.specs.Answers.{Answer}
 use Rattle.group.specs.Answers.{number_of, value_of, if_fine}
 
 -- so many letters of what was lent, from the start on, where they stand in it; a refused request hands back the empty part

@@ -5,7 +5,7 @@ ghost use Rattle.group.specs.Ranges.{NodeOf};
 ghost use Rattle.helpers.specs.Calls.{helper_refusal, Helped};
 ghost use Rattle.helper_sums.specs.Steps.Checked.{Helper};
 
-use group::{Answer, Check, Group, Refusal};
+use group::{Group, Refusal};
 
 // Fills `piece` with what the helper of this rank sends for the lost node: letters t(h,u)+1 .. t(h,u)+L' of r, the sum of its packets
 // each moved right by the lost node's shift. `packets` has exactly the helper's T letters (else 5) and `piece` exactly L' (else 6).
@@ -18,46 +18,42 @@ pub fn help(
     rank: usize,
     packets: &[u8],
     piece: &mut [u8],
-) -> Answer
+) -> Result<usize, Refusal>
     ensures { Helped g lost helper rank packets.now piece.old piece.new result }
 {
-    match check_helper(g, lost, helper, rank) {
-        Check::Refused(refusal) => Answer::Refused(refusal),
-        Check::Fine => help_exact(g, lost, helper, rank, packets, piece),
-    }
+    check_helper(g, lost, helper, rank)?;
+    help_exact(g, lost, helper, rank, packets, piece)
 }
 
 // The group, the two nodes and the rank: refusals 1 to 4.
-fn check_helper(g: Group, lost: usize, helper: usize, rank: usize) -> Check
+fn check_helper(g: Group, lost: usize, helper: usize, rank: usize) -> Result<(), Refusal>
     ensures { check_number result ≡ helper_refusal g lost helper rank }
 {
-    match group_checks::node(g, lost) {
-        Check::Refused(refusal) => Check::Refused(refusal),
-        Check::Fine => check_other(g, lost, helper, rank),
-    }
+    group_checks::node(g, lost)?;
+    check_other(g, lost, helper, rank)
 }
 
 // The helper and its rank: refusals 3 and 4.
-fn check_other(g: Group, lost: usize, helper: usize, rank: usize) -> Check
+fn check_other(g: Group, lost: usize, helper: usize, rank: usize) -> Result<(), Refusal>
     requires { NodeOf g lost }
     ensures { check_number result ≡ helper_refusal g lost helper rank }
 {
     if helper < 1 {
-        return Check::Refused(Refusal::Ids);
+        return Err(Refusal::Ids);
     }
     if g.n < helper {
-        return Check::Refused(Refusal::Ids);
+        return Err(Refusal::Ids);
     }
     if rank < 1 {
-        return Check::Refused(Refusal::Ids);
+        return Err(Refusal::Ids);
     }
     if g.d < rank {
-        return Check::Refused(Refusal::Ids);
+        return Err(Refusal::Ids);
     }
     if helper == lost {
-        return Check::Refused(Refusal::Order);
+        return Err(Refusal::Order);
     }
-    Check::Fine
+    Ok(())
 }
 
 // The same once these are right: refusals 5 and 6.
@@ -68,18 +64,14 @@ fn help_exact(
     rank: usize,
     packets: &[u8],
     piece: &mut [u8],
-) -> Answer
+) -> Result<usize, Refusal>
     requires { Helper g lost helper rank }
     ensures { Helped g lost helper rank packets.now piece.old piece.new result }
 {
     let table = shifts::all();
     let size = lengths::known::widened_in(&table, g, helper);
     let wanted = lengths::known::widened_in(&table, g, lost);
-    match group_checks::lengths(packets.len(), g.d * size, piece.len(), wanted) {
-        Check::Refused(refusal) => Answer::Refused(refusal),
-        Check::Fine => {
-            helper_sums::sum_packets(g, lost, helper, rank, size, &table, packets, piece);
-            Answer::Value(0)
-        }
-    }
+    group_checks::lengths(packets.len(), g.d * size, piece.len(), wanted)?;
+    helper_sums::sum_packets(g, lost, helper, rank, size, &table, packets, piece);
+    Ok(0)
 }

@@ -5,7 +5,7 @@ ghost use Rattle.std.specs.Prelude.{◌≡◌};
 ghost use Rattle.group.specs.Answers.{check_number};
 ghost use Rattle.ids.specs.Ids.{ids_refusal, all_in_range, falling, among};
 
-use group::{Check, Group, Refusal};
+use group::{Group, Refusal};
 
 // Every id is one of 1..n.
 pub fn all_in_range(ids: &[usize], n: usize) -> bool
@@ -53,17 +53,17 @@ pub fn is_among(node: usize, ids: &[usize]) -> bool
 }
 
 // A list of ids that must be `wanted` many: refusal 3, and then 4.
-pub fn check(g: Group, wanted: usize, ids: &[usize]) -> Check
+pub fn check(g: Group, wanted: usize, ids: &[usize]) -> Result<(), Refusal>
     ensures { check_number result ≡ ids_refusal g wanted ids.now }
 {
     if ids.len() != wanted {
-        return Check::Refused(Refusal::Ids);
+        return Err(Refusal::Ids);
     }
     if !all_in_range(ids, g.n) {
-        return Check::Refused(Refusal::Ids);
+        return Err(Refusal::Ids);
     }
     if !strictly_falling(ids) {
-        return Check::Refused(Refusal::Order);
+        return Err(Refusal::Order);
     }
-    Check::Fine
+    Ok(())
 }

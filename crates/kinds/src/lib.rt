@@ -8,7 +8,7 @@ ghost use Rattle.records.specs.Steps.Ranges.{range_tests};
 ghost use Rattle.kinds.specs.Kinds.{is_kind, kind_for_length, row_for_kind, row_total, head_size};
 ghost use Rattle.kinds.specs.Steps.Rows.{limits_at, length_test};
 
-use group::{Answer, Check, Group, Refusal};
+use group::{Group, Refusal};
 use preview_numbers::checks as previews;
 use records::ranges;
 
@@ -133,7 +133,7 @@ pub fn head_size(kind: usize) -> usize
 }
 
 // A node with these numbers, by the ranges of its kind: refusals 1, 2 and 3.
-pub fn check(kind: usize, g: Group, node: usize) -> Check
+pub fn check(kind: usize, g: Group, node: usize) -> Result<(), Refusal>
     ensures { check_number result ≡ (row_for_kind kind).refusal g node }
 {
     if serves(kind, g.l) {
@@ -141,19 +141,19 @@ pub fn check(kind: usize, g: Group, node: usize) -> Check
     }
     match kind {
         PREVIEWS => previews::node(g, node),
-        REPAIRING => Check::Refused(Refusal::Length),
-        REPAIRING_LONGER => Check::Refused(Refusal::Length),
-        _ => Check::Refused(Refusal::Numbers),
+        REPAIRING => Err(Refusal::Length),
+        REPAIRING_LONGER => Err(Refusal::Length),
+        _ => Err(Refusal::Numbers),
     }
 }
 
 // The value of an answer; a refusal carries 0.
-fn value_of(answer: Answer) -> usize
+fn value_of(answer: Result<usize, Refusal>) -> usize
     ensures { result ≡ value_of answer }
 {
     match answer {
-        Answer::Value(value) => value,
-        Answer::Refused(_) => 0,
+        Ok(value) => value,
+        Err(_) => 0,
     }
 }
 

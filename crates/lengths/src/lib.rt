@@ -7,34 +7,28 @@ ghost use Rattle.group.specs.Answers.{Answers};
 ghost use Rattle.group.specs.Ranges.{group_refusal, node_refusal};
 ghost use Rattle.lengths.specs.Lengths.{file_letters, node_letters, repair_letters};
 
-use group::{Answer, Check, Group};
+use group::{Group, Refusal};
 
 // The letters of a file, B*L. Refusals: 1, 2.
-pub fn file_letters(g: Group) -> Answer
+pub fn file_letters(g: Group) -> Result<usize, Refusal>
     ensures { Answers result (group_refusal g) (file_letters g) }
 {
-    match group_checks::group(g) {
-        Check::Refused(refusal) => Answer::Refused(refusal),
-        Check::Fine => Answer::Value(known::file(g)),
-    }
+    group_checks::group(g)?;
+    Ok(known::file(g))
 }
 
 // The letters that a node holds, T: its d packets one after another. Refusals: 1, 2, 3.
-pub fn packet_letters(g: Group, node: usize) -> Answer
+pub fn packet_letters(g: Group, node: usize) -> Result<usize, Refusal>
     ensures { Answers result (node_refusal g node) (node_letters g node) }
 {
-    match group_checks::node(g, node) {
-        Check::Refused(refusal) => Answer::Refused(refusal),
-        Check::Fine => Answer::Value(known::node(g, node)),
-    }
+    group_checks::node(g, node)?;
+    Ok(known::node(g, node))
 }
 
 // The letters of the piece that a helper sends for the lost node, L'. Refusals: 1, 2, 3.
-pub fn repair_letters(g: Group, lost: usize) -> Answer
+pub fn repair_letters(g: Group, lost: usize) -> Result<usize, Refusal>
     ensures { Answers result (node_refusal g lost) (repair_letters g lost) }
 {
-    match group_checks::node(g, lost) {
-        Check::Refused(refusal) => Answer::Refused(refusal),
-        Check::Fine => Answer::Value(known::repair(g, lost)),
-    }
+    group_checks::node(g, lost)?;
+    Ok(known::repair(g, lost))
 }

@@ -2,7 +2,7 @@
 use Rattle.std.specs.Prelude.{List, ℕ, eqb, length}
 use Rattle.letters.specs.Algebra.{xors}
 use Rattle.group.specs.declared.Group.{Group}
-use Rattle.group.specs.declared.Answer.{Answer}
+use Rattle.group.specs.Answers.{Answer}
 use Rattle.group.specs.Answers.{unless, first, Called}
 use Rattle.group.specs.Ranges.{node_refusal}
 use Rattle.lengths.specs.Lengths.{file_letters, node_letters}

@@ -7,35 +7,29 @@ ghost use Rattle.lengths.specs.Lengths.{file_letters, node_letters, packet_lengt
 ghost use Rattle.matrix.specs.Matrix.{packets as product};
 ghost use Rattle.nodes.specs.Calls.{Encoded};
 
-use group::{Answer, Check, Group};
+use group::{Group, Refusal};
 
 // Fills `packets` with the d packets of `node`, letter for letter the matrix product of the file.
 // `file` has exactly B*L letters (else 5) and `packets` exactly T (else 6); refusals 1, 2 and 3 come before.
 // A refused call leaves `packets` as it was.
-pub fn encode(g: Group, node: usize, file: &[u8], packets: &mut [u8]) -> Answer
+pub fn encode(g: Group, node: usize, file: &[u8], packets: &mut [u8]) -> Result<usize, Refusal>
     ensures { Encoded g node file.now packets.old packets.new result }
 {
-    match group_checks::node(g, node) {
-        Check::Refused(refusal) => Answer::Refused(refusal),
-        Check::Fine => encode_exact(g, node, file, packets),
-    }
+    group_checks::node(g, node)?;
+    encode_exact(g, node, file, packets)
 }
 
 // The same for a node of a group in range: refusals 5 and 6.
-fn encode_exact(g: Group, node: usize, file: &[u8], packets: &mut [u8]) -> Answer
+fn encode_exact(g: Group, node: usize, file: &[u8], packets: &mut [u8]) -> Result<usize, Refusal>
     requires { NodeOf g node }
     ensures { Encoded g node file.now packets.old packets.new result }
 {
     let table = shifts::all();
     let size = lengths::known::widened_in(&table, g, node);
     let wanted_file = lengths::known::file(g);
-    match group_checks::lengths(file.len(), wanted_file, packets.len(), g.d * size) {
-        Check::Refused(refusal) => Answer::Refused(refusal),
-        Check::Fine => {
-            encode_packets(g, node, size, &table, file, packets);
-            Answer::Value(0)
-        }
-    }
+    group_checks::lengths(file.len(), wanted_file, packets.len(), g.d * size)?;
+    encode_packets(g, node, size, &table, file, packets);
+    Ok(0)
 }
 
 // The d packets, one after another, all of `size` letters. Where the widest shift leaves at least a block to all entries, each letter there is written once; else every entry is a run

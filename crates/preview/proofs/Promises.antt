@@ -8,7 +8,7 @@ use Rattle.letters.specs.Runs.{xored}
 use Rattle.shifts.specs.Rule.{preview_shift}
 use Rattle.worth.specs.Worth.{NoZero}
 use Rattle.group.specs.declared.Group.{Group}
-use Rattle.group.specs.declared.Answer.{Answer}
+use Rattle.group.specs.Answers.{Answer}
 use Rattle.group.specs.Answers.{number_of, value_of}
 use Rattle.group.proofs.Refusals.{if_fine_lem}
 use Rattle.group.proofs.Called.{fine_number, fine_value, called_fine, answer_at_most}

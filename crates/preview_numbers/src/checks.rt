@@ -3,7 +3,7 @@ ghost use Rattle.std.specs.Prelude.{◌≡◌};
 ghost use Rattle.group.specs.Answers.{check_number};
 ghost use Rattle.preview_numbers.specs.Previews.{preview_numbers_in_range, preview_length_in_range, preview_group_refusal, preview_node_refusal};
 
-use group::{Check, Group, Refusal};
+use group::{Group, Refusal};
 
 // n is 3 to 16, 2 <= k <= n, and d is 0.
 pub fn numbers_in_range(g: Group) -> bool
@@ -32,24 +32,22 @@ pub fn length_in_range(g: Group) -> bool
 }
 
 // The group's own numbers: refusals 1 and 2.
-pub fn group(g: Group) -> Check
+pub fn group(g: Group) -> Result<(), Refusal>
     ensures { check_number result ≡ preview_group_refusal g }
 {
     if !numbers_in_range(g) {
-        return Check::Refused(Refusal::Numbers);
+        return Err(Refusal::Numbers);
     }
     if !length_in_range(g) {
-        return Check::Refused(Refusal::Length);
+        return Err(Refusal::Length);
     }
-    Check::Fine
+    Ok(())
 }
 
 // A group and one of its nodes: refusals 1, 2 and 3.
-pub fn node(g: Group, node: usize) -> Check
+pub fn node(g: Group, node: usize) -> Result<(), Refusal>
     ensures { check_number result ≡ preview_node_refusal g node }
 {
-    match group(g) {
-        Check::Refused(refusal) => Check::Refused(refusal),
-        Check::Fine => group_checks::id(g, node),
-    }
+    group(g)?;
+    group_checks::id(g, node)
 }

@@ -7,24 +7,20 @@ pub mod known;
 ghost use Rattle.group.specs.Answers.{Answers};
 ghost use Rattle.preview_numbers.specs.Previews.{preview_group_refusal, preview_node_refusal, preview_file, preview_packet};
 
-use group::{Answer, Check, Group};
+use group::{Group, Refusal};
 
 // The letters of a file of previews, k*L. Refusals: 1, 2.
-pub fn file_letters(g: Group) -> Answer
+pub fn file_letters(g: Group) -> Result<usize, Refusal>
     ensures { Answers result (preview_group_refusal g) (preview_file g) }
 {
-    match checks::group(g) {
-        Check::Refused(refusal) => Answer::Refused(refusal),
-        Check::Fine => Answer::Value(known::file(g)),
-    }
+    checks::group(g)?;
+    Ok(known::file(g))
 }
 
 // The letters of a node's packet, L + t(i,k). Refusals: 1, 2, 3.
-pub fn packet_letters(g: Group, node: usize) -> Answer
+pub fn packet_letters(g: Group, node: usize) -> Result<usize, Refusal>
     ensures { Answers result (preview_node_refusal g node) (preview_packet g node) }
 {
-    match checks::node(g, node) {
-        Check::Refused(refusal) => Answer::Refused(refusal),
-        Check::Fine => Answer::Value(known::packet(g, node)),
-    }
+    checks::node(g, node)?;
+    Ok(known::packet(g, node))
 }

@@ -3,32 +3,26 @@ ghost use Rattle.preview_numbers.specs.Previews.{PreviewNode};
 ghost use Rattle.preview_packets.specs.Calls.{PreviewEncoded};
 
 use crate::laying;
-use group::{Answer, Check, Group};
+use group::{Group, Refusal};
 
 // Fills `packet` with the packet of `node`: letter p is the sum over the k sequences u of the file of letter p - t(i,u).
 // `file` has exactly k*L letters (else 5) and `packet` exactly L + t(i,k) (else 6); refusals 1, 2 and 3 come before.
 // A refused call leaves `packet` as it was.
-pub fn encode(g: Group, node: usize, file: &[u8], packet: &mut [u8]) -> Answer
+pub fn encode(g: Group, node: usize, file: &[u8], packet: &mut [u8]) -> Result<usize, Refusal>
     ensures { PreviewEncoded g node file.now packet.old packet.new result }
 {
-    match preview_numbers::checks::node(g, node) {
-        Check::Refused(refusal) => Answer::Refused(refusal),
-        Check::Fine => encode_exact(g, node, file, packet),
-    }
+    preview_numbers::checks::node(g, node)?;
+    encode_exact(g, node, file, packet)
 }
 
 // The same for a node of a group in range: refusals 5 and 6.
-fn encode_exact(g: Group, node: usize, file: &[u8], packet: &mut [u8]) -> Answer
+fn encode_exact(g: Group, node: usize, file: &[u8], packet: &mut [u8]) -> Result<usize, Refusal>
     requires { PreviewNode g node }
     ensures { PreviewEncoded g node file.now packet.old packet.new result }
 {
     let wanted = preview_numbers::known::file(g);
     let size = preview_numbers::known::packet(g, node);
-    match group_checks::lengths(file.len(), wanted, packet.len(), size) {
-        Check::Refused(refusal) => Answer::Refused(refusal),
-        Check::Fine => {
-            laying::encode_packet(g, node, file, packet);
-            Answer::Value(0)
-        }
-    }
+    group_checks::lengths(file.len(), wanted, packet.len(), size)?;
+    laying::encode_packet(g, node, file, packet);
+    Ok(0)
 }

@@ -3,7 +3,7 @@ use Rattle.std.specs.Prelude.{◌≡◌, List, [], ℕ, ◌+◌, ◌-◌, ◌*�
 use Rattle.std.specs.Borrow.{Bor}
 use Rattle.shifts.specs.Rule.{preview_shift}
 use Rattle.group.specs.declared.Group.{Group}
-use Rattle.group.specs.declared.Answer.{Answer}
+use Rattle.group.specs.Answers.{Answer}
 use Rattle.group.specs.Answers.{unless, first, if_fine, Answers}
 use Rattle.group.specs.Ranges.{between}
 use Rattle.preview_numbers.specs.Previews.{preview_group_refusal, preview_node_refusal, preview_packet}

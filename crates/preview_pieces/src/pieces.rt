@@ -4,7 +4,7 @@ ghost use Rattle.group.specs.Answers.{check_number};
 ghost use Rattle.preview_numbers.specs.Previews.{PreviewNode};
 ghost use Rattle.preview_pieces.specs.Calls.{PreviewHanded, PreviewStarting, PreviewPlaced, preview_entry_refusal};
 
-use group::{Answer, Check, Group, Refusal};
+use group::{Group, Refusal};
 
 // What `node` sends as `rank`: that part of its packet, letters t(i,v)+1 .. t(i,v)+L, uncopied.
 // The empty part means refused (L >= 1); `piece_start` tells by which number.
@@ -17,54 +17,46 @@ pub fn piece<'a>(g: Group, node: usize, rank: usize, packet: &'a [u8]) -> &'a [u
 
 // The companion of `piece`, handed how many letters the packet has: the index at which the piece starts in it, or the refusal.
 // Refusals: 1, 2, 3 for the node or for a rank outside 1..k, 5 for a packet of another length.
-pub fn piece_start(g: Group, node: usize, rank: usize, held: usize) -> Answer
+pub fn piece_start(g: Group, node: usize, rank: usize, held: usize) -> Result<usize, Refusal>
     ensures { PreviewStarting g node rank held result }
 {
-    match preview_numbers::checks::node(g, node) {
-        Check::Refused(refusal) => Answer::Refused(refusal),
-        Check::Fine => start_of_node(g, node, rank, held),
-    }
+    preview_numbers::checks::node(g, node)?;
+    start_of_node(g, node, rank, held)
 }
 
 // The same for a node of the group.
-fn start_of_node(g: Group, node: usize, rank: usize, held: usize) -> Answer
+fn start_of_node(g: Group, node: usize, rank: usize, held: usize) -> Result<usize, Refusal>
     requires { PreviewNode g node }
     ensures { PreviewStarting g node rank held result }
 {
-    match group_checks::one_of(rank, g.k) {
-        Check::Refused(refusal) => Answer::Refused(refusal),
-        Check::Fine => start_of_rank(g, node, rank, held),
-    }
+    group_checks::one_of(rank, g.k)?;
+    start_of_rank(g, node, rank, held)
 }
 
 // The same for a rank that fits.
-fn start_of_rank(g: Group, node: usize, rank: usize, held: usize) -> Answer
+fn start_of_rank(g: Group, node: usize, rank: usize, held: usize) -> Result<usize, Refusal>
     requires { (PreviewNode g node) × (1 ≤ rank) × (rank ≤ g.k) }
     ensures { PreviewStarting g node rank held result }
 {
     let wanted = preview_numbers::known::packet(g, node);
     if held != wanted {
-        return Answer::Refused(Refusal::Input);
+        return Err(Refusal::Input);
     }
-    Answer::Value(shifts::preview_shift(node, rank))
+    Ok(shifts::preview_shift(node, rank))
 }
 
 // Where the collector puts the piece of this rank: the index at which sequence v starts in its buffer, which is laid out as the file. Refusals: 1, 2, 3.
-pub fn entry(g: Group, rank: usize) -> Answer
+pub fn entry(g: Group, rank: usize) -> Result<usize, Refusal>
     ensures { PreviewPlaced g rank result }
 {
-    match check_entry(g, rank) {
-        Check::Refused(refusal) => Answer::Refused(refusal),
-        Check::Fine => Answer::Value((rank - 1) * g.l),
-    }
+    check_entry(g, rank)?;
+    Ok((rank - 1) * g.l)
 }
 
 // A group and a rank: refusals 1, 2, 3.
-fn check_entry(g: Group, rank: usize) -> Check
+fn check_entry(g: Group, rank: usize) -> Result<(), Refusal>
     ensures { check_number result ≡ preview_entry_refusal g rank }
 {
-    match preview_numbers::checks::group(g) {
-        Check::Refused(refusal) => Check::Refused(refusal),
-        Check::Fine => group_checks::one_of(rank, g.k),
-    }
+    preview_numbers::checks::group(g)?;
+    group_checks::one_of(rank, g.k)
 }

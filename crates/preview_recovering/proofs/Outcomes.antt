@@ -5,7 +5,7 @@ use Prim.Native.Nat.{ℕ}
 use lib.ListN.{length}
 use Rattle.letters.specs.Algebra.{bytes, xors}
 use Rattle.group.specs.declared.Group.{Group}
-use Rattle.group.specs.declared.Answer.{Answer}
+use Rattle.group.specs.Answers.{Answer}
 use Rattle.group.proofs.Outcomes.{solves_once}
 use Rattle.preview_product.specs.Preview.{preview_reading, preview_count}
 use Rattle.preview_product.proofs.Theorems.{preview_once}

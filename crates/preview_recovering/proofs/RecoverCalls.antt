@@ -1,4 +1,5 @@
 -- What a refused recovery of previews and one that is not refused leave: the solver leaves the one buffer whose parts are what it was handed, and these are its reading.
+use Rattle.std.specs.Prelude.{Ok, Err}
 use mathlib.Core.Path.{◌≡◌, ◌∙◌}
 use mathlib.Core.List.{List}
 use Prim.Native.Nat.{ℕ}
@@ -12,7 +13,7 @@ use Rattle.system.specs.System.{sequence}
 use Rattle.solving.specs.Solver.{SolvedCounted}
 use Rattle.group.specs.declared.Group.{Group}
 use Rattle.group.specs.declared.Refusal.{Refusal}
-use Rattle.group.specs.declared.Answer.{Answer}
+use Rattle.group.specs.Answers.{Answer}
 use Rattle.group.specs.Answers.{refusal_number, unless}
 use Rattle.group.proofs.Refusals.{first_none, unless_none}
 use Rattle.group.proofs.Called.{solves_refused, solves_fine}
@@ -49,14 +50,14 @@ of_preview_recover g ids n e long = simp (e, eq-eqb n (preview_file g) long)
 
 pub preview_recover_refused :
     (g : Group) (ids before : List ℕ) (r : Refusal) → refusal_number r ≡ preview_recover_refusal g ids (length before)
-    → PreviewRecovered g ids before before (Answer.Refused r)
+    → PreviewRecovered g ids before before (Err r)
 preview_recover_refused g ids before r e =
     solves_refused r (preview_recover_refusal g ids (length before)) (λ file. preview_reading xors g file ids) (preview_count g ids) before e
 
 pub preview_recover_fine :
     (g : Group) (ids before after rows : List ℕ) (count : ℕ) → CheckedReaders g ids → length before ≡ preview_file g
     → preview_recover_refusal g ids (length before) ≡ 0 → RowsOf preview_shift ids rows → SolvedCounted g.k g.l rows before after count
-    → PreviewRecovered g ids before after (Answer.Value count)
+    → PreviewRecovered g ids before after (Ok count)
 unfolding preview_count preview_file
 preview_recover_fine g ids before after rows count c long e r s =
     solves_fine (preview_recover_refusal g ids (length before)) count (λ file. preview_reading xors g file ids) (preview_count g ids) before after e

@@ -2,7 +2,7 @@
 use Rattle.std.specs.Prelude.{List, ℕ, eqb, length}
 use Rattle.letters.specs.Algebra.{xors}
 use Rattle.group.specs.declared.Group.{Group}
-use Rattle.group.specs.declared.Answer.{Answer}
+use Rattle.group.specs.Answers.{Answer}
 use Rattle.group.specs.Answers.{unless, first, SolvesInPlace}
 use Rattle.ids.specs.Ids.{ids_refusal}
 use Rattle.preview_numbers.specs.Previews.{preview_group_refusal, preview_file}

@@ -1,4 +1,5 @@
 -- What a refused repair and one that is not refused leave.
+use Rattle.std.specs.Prelude.{Ok, Err}
 use mathlib.Core.Path.{◌≡◌, subst, ◌∙◌}
 use mathlib.Core.List.{List}
 use Prim.Native.Nat.{ℕ, ◌≤◌}
@@ -12,7 +13,7 @@ use Rattle.solving.specs.Solver.{SolvedCounted}
 use Rattle.shifts.specs.Rule.{t}
 use Rattle.group.specs.declared.Group.{Group}
 use Rattle.group.specs.declared.Refusal.{Refusal}
-use Rattle.group.specs.declared.Answer.{Answer}
+use Rattle.group.specs.Answers.{Answer}
 use Rattle.group.specs.Answers.{refusal_number, unless, first}
 use Rattle.group.specs.Ranges.{node_refusal}
 use Rattle.ids.specs.Ids.{ids_refusal}
@@ -32,14 +33,14 @@ use Rattle.matrix.proofs.Rebuilt.{same_buffer}
 
 pub repair_refused :
     (g : Group) (lost : ℕ) (helpers before : List ℕ) (r : Refusal) → refusal_number r ≡ repair_refusal g lost helpers (length before)
-    → Repaired g lost helpers before before (Answer.Refused r)
+    → Repaired g lost helpers before before (Err r)
 repair_refused g lost helpers before r e =
     solves_refused r (repair_refusal g lost helpers (length before)) (equations xors g lost helpers) (repair_count g lost helpers) before e
 
 pub repair_fine :
     (g : Group) (lost : ℕ) (helpers before after rows : List ℕ) (n count : ℕ) → Helpers g lost helpers → length before ≡ repair_buffer g lost
     → repair_refusal g lost helpers (length before) ≡ 0 → n ≡ repair_letters g lost → RowsOf t helpers rows → SolvedCounted g.d n rows before after count
-    → Repaired g lost helpers before after (Answer.Value count)
+    → Repaired g lost helpers before after (Ok count)
 unfolding equations repair_count
 repair_fine g lost helpers before after rows n count h long e size r solved =
     let s = subst (λ m. SolvedCounted g.d m rows before after count) size solved in

@@ -5,7 +5,7 @@ ghost use Rattle.group.specs.Ranges.{NodeOf};
 ghost use Rattle.rebuilding.specs.Calls.{apart_refusal, helpers_refusal, Repaired};
 ghost use Rattle.rebuilding.specs.Steps.Checked.{Helpers};
 
-use group::{Answer, Check, Group, Refusal};
+use group::{Group, Refusal};
 use sequences::rows;
 
 // Turns the d pieces in `buffer`, L' letters each, one after another in the helpers' order, into the lost node's d packets, in place.
@@ -13,56 +13,50 @@ use sequences::rows;
 // the terms of document 01's sum whose letter isn't zero in the packets that come out.
 // Refusals: 1, 2, 3 for an id outside 1..n or another number of helpers than d, 4 for helpers that don't fall strictly or have the lost
 // node among them, 5 for a buffer of another length than d*L'. A refused call leaves `buffer` as it was.
-pub fn repair(g: Group, lost: usize, helpers: &[usize], buffer: &mut [u8]) -> Answer
+pub fn repair(g: Group, lost: usize, helpers: &[usize], buffer: &mut [u8]) -> Result<usize, Refusal>
     ensures { Repaired g lost helpers.now buffer.old buffer.new result }
 {
-    match check_helpers(g, lost, helpers) {
-        Check::Refused(refusal) => Answer::Refused(refusal),
-        Check::Fine => repair_exact(g, lost, helpers, buffer),
-    }
+    check_helpers(g, lost, helpers)?;
+    repair_exact(g, lost, helpers, buffer)
 }
 
 // The group, the lost node and its helpers: refusals 1 to 4.
-fn check_helpers(g: Group, lost: usize, helpers: &[usize]) -> Check
+fn check_helpers(g: Group, lost: usize, helpers: &[usize]) -> Result<(), Refusal>
     ensures { check_number result ≡ helpers_refusal g lost helpers.now }
 {
-    match group_checks::node(g, lost) {
-        Check::Refused(refusal) => Check::Refused(refusal),
-        Check::Fine => check_others(g, lost, helpers),
-    }
+    group_checks::node(g, lost)?;
+    check_others(g, lost, helpers)
 }
 
 // The helpers: refusals 3 and 4.
-fn check_others(g: Group, lost: usize, helpers: &[usize]) -> Check
+fn check_others(g: Group, lost: usize, helpers: &[usize]) -> Result<(), Refusal>
     requires { NodeOf g lost }
     ensures { check_number result ≡ helpers_refusal g lost helpers.now }
 {
-    match ids::check(g, g.d, helpers) {
-        Check::Refused(refusal) => Check::Refused(refusal),
-        Check::Fine => check_apart(lost, helpers),
-    }
+    ids::check(g, g.d, helpers)?;
+    check_apart(lost, helpers)
 }
 
 // The lost node is none of them: else refusal 4.
-fn check_apart(lost: usize, helpers: &[usize]) -> Check
+fn check_apart(lost: usize, helpers: &[usize]) -> Result<(), Refusal>
     ensures { check_number result ≡ apart_refusal lost helpers.now }
 {
     if ids::is_among(lost, helpers) {
-        return Check::Refused(Refusal::Order);
+        return Err(Refusal::Order);
     }
-    Check::Fine
+    Ok(())
 }
 
 // The same once these are right: refusal 5, and then the solver has the whole buffer.
-fn repair_exact(g: Group, lost: usize, helpers: &[usize], buffer: &mut [u8]) -> Answer
+fn repair_exact(g: Group, lost: usize, helpers: &[usize], buffer: &mut [u8]) -> Result<usize, Refusal>
     requires { Helpers g lost helpers.now }
     ensures { Repaired g lost helpers.now buffer.old buffer.new result }
 {
     let wanted = lengths::known::repair_buffer(g, lost);
     if buffer.len() != wanted {
-        return Answer::Refused(Refusal::Input);
+        return Err(Refusal::Input);
     }
     let n = lengths::known::repair(g, lost);
     let rows = rows::shift_rows(helpers);
-    Answer::Value(solving::solve_counted(buffer, g.d, n, &rows))
+    Ok(solving::solve_counted(buffer, g.d, n, &rows))
 }

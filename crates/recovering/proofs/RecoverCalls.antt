@@ -1,4 +1,5 @@
 -- What a refused recovery and one that is not refused leave.
+use Rattle.std.specs.Prelude.{Ok, Err}
 use mathlib.Core.Path.{◌≡◌}
 use mathlib.Core.List.{List}
 use Prim.Native.Nat.{ℕ}
@@ -9,7 +10,7 @@ use borrow.Author.Tests.{eqb-true, eq-eqb}
 use Rattle.letters.specs.Algebra.{xors}
 use Rattle.group.specs.declared.Group.{Group}
 use Rattle.group.specs.declared.Refusal.{Refusal}
-use Rattle.group.specs.declared.Answer.{Answer}
+use Rattle.group.specs.Answers.{Answer}
 use Rattle.group.specs.Answers.{refusal_number, unless}
 use Rattle.group.specs.Ranges.{group_refusal}
 use Rattle.ids.specs.Ids.{ids_refusal}
@@ -45,13 +46,13 @@ of_recover g ids n e long = simp (e, eq-eqb n (file_letters g) long)
 
 pub recover_refused :
     (g : Group) (ids before : List ℕ) (r : Refusal) → refusal_number r ≡ recover_refusal g ids (length before)
-    → Recovered g ids before before (Answer.Refused r)
+    → Recovered g ids before before (Err r)
 recover_refused g ids before r e =
     solves_refused r (recover_refusal g ids (length before)) (λ file. reading xors g file ids) (recovery_count g ids) before e
 
 pub recover_fine :
     (g : Group) (ids before after : List ℕ) (count : ℕ) → Collected g ids before → recover_refusal g ids (length before) ≡ 0
-    → Stage g ids 0 before after → count ≡ recovery_count g ids after → Recovered g ids before after (Answer.Value count)
+    → Stage g ids 0 before after → count ≡ recovery_count g ids after → Recovered g ids before after (Ok count)
 recover_fine g ids before after count collected e stage counted =
     solves_fine (recover_refusal g ids (length before)) count (λ file. reading xors g file ids) (recovery_count g ids) before after e counted stage.same_length
     (stage_end g ids before after collected stage)

@@ -2,7 +2,7 @@
 use mathlib.Core.Path.{◌≡◌, sym, ◌∙◌}
 use mathlib.Core.List.{List}
 use Prim.Native.Nat.{ℕ}
-use Rattle.group.specs.declared.Answer.{Answer}
+use Rattle.group.specs.Answers.{Answer}
 use Rattle.group.proofs.Outcomes.{same_answer}
 use Rattle.heads.specs.declared.Head.{Head}
 use Rattle.share.specs.Calls.{Writes}

@@ -4,7 +4,7 @@ use mathlib.Core.List.{List}
 use Prim.Native.Nat.{ℕ, ◌^◌, ◌<◌}
 use lib.ListN.{length}
 use borrow.Author.Tests.{eq-eqb}
-use Rattle.group.specs.declared.Answer.{Answer}
+use Rattle.group.specs.Answers.{Answer}
 use Rattle.group.specs.Answers.{if_fine, Outcome}
 use Rattle.group.proofs.Refusals.{exact_lengths, first_none}
 use Rattle.records.specs.Records.{size_for}

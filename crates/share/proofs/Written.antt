@@ -1,11 +1,12 @@
 -- What writing answers and leaves, where a check refuses and where none does.
+use Rattle.std.specs.Prelude.{Ok, Err}
 use mathlib.Core.Path.{◌≡◌, refl, sym, ◌∙◌}
 use mathlib.Core.List.{List}
 use Prim.Native.Nat.{ℕ, zero, suc, ◌+◌, ◌-◌, ◌*◌, ◌/◌}
 use lib.ListN.{length, get_or}
 use Rattle.letters.specs.Laid.{Laid}
 use Rattle.group.specs.declared.Refusal.{Refusal}
-use Rattle.group.specs.declared.Answer.{Answer}
+use Rattle.group.specs.Answers.{Answer}
 use Rattle.group.specs.Answers.{refusal_number, first}
 use Rattle.group.proofs.Refusals.{never_zero, first_fine, refuses, gives}
 use Rattle.records.specs.Records.{block_size, block_letters, blocks, size_for, end_record}
@@ -31,13 +32,13 @@ laid_share h letters H e xs front full last back long head some rest end =
     share_laid heads h letters H (record_long h ∙ sym e) xs front full last back (rw e long) (rw e head) some rest end
 
 module _ (h : Head) (letters before : List ℕ) where
-  pub write_refused : (q : Refusal) (n : ℕ) → refusal_number q ≡ n → Writes h letters before n (Answer.Refused q) before
+  pub write_refused : (q : Refusal) (n : ℕ) → refusal_number q ≡ n → Writes h letters before n (Err q) before
   write_refused q zero e = absurd (never_zero q e)
   write_refused q (suc n) e = record { answered = refuses q (suc n) (head_bytes h) e; held = refl }
 
   pub write_done :
       (n bytes : ℕ) (after : List ℕ) → n ≡ 0 → bytes ≡ head_bytes h → after ≡ share_of heads h letters
-      → Writes h letters before n (Answer.Value bytes) after
+      → Writes h letters before n (Ok bytes) after
   write_done n bytes after e b s =
       record { answered = gives n bytes (head_bytes h) e b; held = rw e s }
 

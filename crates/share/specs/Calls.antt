@@ -1,7 +1,7 @@
 -- What the calls promise, in the numbers of documents 01 and 02 (docs/SCHEME.md, 11).
 use Rattle.std.specs.Prelude.{◌≡◌, List, ℕ, length}
 use Rattle.group.specs.declared.Group.{Group}
-use Rattle.group.specs.declared.Answer.{Answer}
+use Rattle.group.specs.Answers.{Answer}
 use Rattle.group.specs.Answers.{first, if_fine, Answers}
 use Rattle.group.specs.Ranges.{input_refusal, output_refusal}
 use Rattle.records.specs.Records.{size_for}

@@ -8,7 +8,7 @@ ghost use Rattle.heads.specs.Heads.{heads};
 ghost use Rattle.share.specs.Calls.{Writes, fit_refusal};
 
 use block_letters::writing;
-use group::{Answer, Check};
+use group::Refusal;
 use heads::{Head, bytes as head_bytes};
 use records::sizes;
 
@@ -25,17 +25,13 @@ fn fill(head: Head, packets: &[u8], share: &mut [u8])
 }
 
 // Writes a share whose head's numbers are in range: refusals 5 and 6.
-pub fn fitting(head: Head, packets: &[u8], share: &mut [u8]) -> Answer
+pub fn fitting(head: Head, packets: &[u8], share: &mut [u8]) -> Result<usize, Refusal>
     requires { (row_for_kind head.kind).refusal head.group head.node ≡ 0 }
     ensures { Writes head packets.now share.old (fit_refusal head (length packets.now) (length share.old)) result share.new }
 {
     let letters = head_bytes::total(head);
     let bytes = sizes::size_for(kinds::head_size(head.kind), letters);
-    match group_checks::lengths(packets.len(), letters, share.len(), bytes) {
-        Check::Refused(refusal) => Answer::Refused(refusal),
-        Check::Fine => {
-            fill(head, packets, share);
-            Answer::Value(bytes)
-        }
-    }
+    group_checks::lengths(packets.len(), letters, share.len(), bytes)?;
+    fill(head, packets, share);
+    Ok(bytes)
 }

@@ -1,7 +1,7 @@
 -- Any chain of losses and repairs: what all nodes have, and the steps from one state to the next.
 use Rattle.std.specs.Prelude.{◌≡◌, cond, List, ℕ, ◌≤◌, eqb}
 use Rattle.group.specs.declared.Group.{Group}
-use Rattle.group.specs.declared.Answer.{Answer}
+use Rattle.group.specs.Answers.{Answer}
 use Rattle.group.specs.Answers.{number_of}
 use Rattle.group.specs.Ranges.{NodeOf}
 use Rattle.sequences.specs.Lists.{ranked}

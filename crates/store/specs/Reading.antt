@@ -2,7 +2,7 @@
 use Rattle.std.specs.Prelude.{◌≡◌, List, ℕ, ◌≤◌, length, take, drop}
 use Rattle.std.specs.Borrow.{Bor}
 use Rattle.group.specs.declared.Group.{Group}
-use Rattle.group.specs.declared.Answer.{Answer}
+use Rattle.group.specs.Answers.{Answer}
 use Rattle.group.specs.Answers.{value_of}
 use Rattle.lengths.specs.Lengths.{file_letters}
 use Rattle.sequences.specs.Lists.{ranked}

@@ -1,7 +1,7 @@
 -- A lost node is rebuilt: `help` of each of d nodes, and `repair` of their pieces one after another.
 use Rattle.std.specs.Prelude.{◌≡◌, List, ℕ, ◌≤◌}
 use Rattle.group.specs.declared.Group.{Group}
-use Rattle.group.specs.declared.Answer.{Answer}
+use Rattle.group.specs.Answers.{Answer}
 use Rattle.group.specs.Answers.{number_of}
 use Rattle.sequences.specs.Lists.{joined, ranked}
 use Rattle.helpers.specs.Calls.{Helped}

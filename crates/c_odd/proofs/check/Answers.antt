@@ -1,12 +1,12 @@
 -- `check` meets its contract: the call's own refusals come first.
-use Rattle.group.proofs.Refusals.{passed_on, went_on}
+use Rattle.group.proofs.Refusals.{handed_on, passed_on, went_on}
 use Rattle.c_odd.specs.Odd.{told_refusal}
 use Rattle.c_odd.proofs.check.Goals as goal
 
-pub returns-in-Refused : goal.returns-in-Refused
+pub returns-in_err-check : goal.returns-in_err-check
 unfolding told_refusal
-returns-in-Refused c = passed_on _ _ _ _ c.in-Refused.is c.check.ensures
+returns-in_err-check c = rw (handed_on c.from_residual.result _ c.from_residual.ensures.1) (passed_on _ _ _ _ c.in_err-check.was c.check.ensures)
 
-pub returns-in-Fine : goal.returns-in-Fine
+pub returns : goal.returns
 unfolding told_refusal
-returns-in-Fine c = went_on _ _ _ _ c.in-Fine.is c.check.ensures c.exact.ensures
+returns c = went_on _ _ _ _ c.in_ok-check.was c.check.ensures c.exact.ensures

@@ -18,27 +18,27 @@ from_start : (o a b : ℕ) → a ≡ b → by_byte a o ≡ o + b
 from_start o a b e = omega arith
 
 pub overflow_add-end : goal.overflow_add-end
-overflow_add-end c = omega (arith, within_value _ _ _ _ c.in-Value.is c.requires)
+overflow_add-end c = omega (arith, within_value _ _ _ _ c.in-Ok.is c.requires)
 
-pub slice_bounds-result-end-in-Value : goal.slice_bounds-result-end-in-Value
-slice_bounds-result-end-in-Value c = omega (arith, within_value _ _ _ _ c.in-Value.is c.requires)
+pub slice_bounds-result-end-in-Ok : goal.slice_bounds-result-end-in-Ok
+slice_bounds-result-end-in-Ok c = omega (arith, within_value _ _ _ _ c.in-Ok.is c.requires)
 
-pub returns-in-Refused : goal.returns-in-Refused
-returns-in-Refused c =
-    let told = ap number_of c.in-Refused.is in
-    let r = c.in-Refused.field-0 in
+pub returns-in-Err : goal.returns-in-Err
+returns-in-Err c =
+    let told = ap number_of c.in-Err.is in
+    let r = c.in-Err.field-0 in
     record {
       letters = sym (if_refused _ _ _ (λ z. never_zero r (sym told ∙ z)));
       block = refl;
       offset = from_start c.args.lent.ref_ptr.1 0 _ (sym (if_refused _ _ _ (λ z. never_zero r (sym told ∙ z))));
     }
 
-pub returns-in-Value : goal.returns-in-Value
-returns-in-Value c =
+pub returns-in-Ok : goal.returns-in-Ok
+returns-in-Ok c =
     let s = c in
-    let start = c.in-Value.from in
-    let told = ap number_of c.in-Value.is in
-    let is = ap value_of c.in-Value.is in
+    let start = c.in-Ok.from in
+    let told = ap number_of c.in-Ok.is in
+    let is = ap value_of c.in-Ok.is in
     record {
       letters =
           ap₂ (λ n m. take n (drop m s.args.lent.now)) (whole start s.args.count) (sym is)

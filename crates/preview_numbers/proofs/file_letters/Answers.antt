@@ -1,15 +1,15 @@
 -- `file_letters` meets its contract: a refusal is passed on, and where there is none the group is in range.
 use Rattle.preview_numbers.proofs.InRange.{preview_in_range}
-use Rattle.group.proofs.Refusals.{stopped, fine, refuses, gives}
+use Rattle.group.proofs.Refusals.{handed_on, stopped, fine, refuses, gives}
 use Rattle.preview_numbers.proofs.file_letters.Goals as goal
 
 pub file-requires : goal.file-requires
 file-requires c =
     let s = c in
-    preview_in_range _ (fine _ _ c.in-Fine.is s.group.ensures)
+    preview_in_range _ (fine _ _ c.in_ok-group.was s.group.ensures)
 
-pub returns-in-Refused : goal.returns-in-Refused
-returns-in-Refused c = refuses _ _ _ (stopped _ _ _ c.in-Refused.is c.group.ensures)
+pub returns-in_err-group : goal.returns-in_err-group
+returns-in_err-group c = rw (handed_on c.from_residual.result _ c.from_residual.ensures.1) (refuses _ _ _ (stopped _ _ _ c.in_err-group.was c.group.ensures))
 
-pub returns-in-Fine : goal.returns-in-Fine
-returns-in-Fine c = gives _ _ _ (fine _ _ c.in-Fine.is c.group.ensures) c.file.ensures
+pub returns : goal.returns
+returns c = gives _ _ _ (fine _ _ c.in_ok-group.was c.group.ensures) c.file.ensures

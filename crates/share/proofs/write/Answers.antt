@@ -3,7 +3,7 @@ use mathlib.Core.Path.{◌≡◌, subst}
 use mathlib.Core.List.{List}
 use Prim.Native.Nat.{ℕ}
 use Rattle.group.specs.declared.Group.{Group}
-use Rattle.group.specs.declared.Answer.{Answer}
+use Rattle.group.specs.Answers.{Answer}
 use Rattle.kinds.specs.Kinds.{kind_for_length}
 use Rattle.share.specs.Calls.{Written, head_for}
 use Rattle.share.proofs.write.Goals as goal

@@ -2,7 +2,7 @@
 use native.Mathlib.Omega.{arith}
 use mathlib.Core.Path.{refl, ◌∙◌}
 use Rattle.lengths.specs.Lengths.{repair_letters}
-use Rattle.group.proofs.Refusals.{exact_lengths, stopped, fine}
+use Rattle.group.proofs.Refusals.{handed_on, exact_lengths, stopped, fine}
 use Rattle.lengths.proofs.Sizes.{node_at_most}
 use Rattle.helpers.specs.Calls.{help_refusal}
 use Rattle.group.proofs.Called.{call_refused, call_fine, lengths_after}
@@ -19,17 +19,17 @@ pub sum_packets-requires : goal.sum_packets-requires
 unfolding repair_letters
 sum_packets-requires c =
     let s = c in
-    let w = exact_lengths _ _ _ _ (fine _ _ c.in-Fine.is c.lengths.ensures) in
+    let w = exact_lengths _ _ _ _ (fine _ _ c.in_ok-lengths.was c.lengths.ensures) in
     record { table = c.all-table.ensures; helper = (s.requires, wide_packet s.args.g s.args.helper _ c.widened_in-size.ensures.0); lengths = (w.0 ∙ wide_node s.args.g s.args.helper _ c.widened_in-size.ensures.0, w.1 ∙ c.widened_in-wanted.ensures.0) }
 
-pub returns-in-Refused : goal.returns-in-Refused
+pub returns-in_err-lengths : goal.returns-in_err-lengths
 unfolding help_refusal repair_letters
-returns-in-Refused c =
-    let s = c in
-    call_refused _ _ _ _ _ (stopped _ _ _ c.in-Refused.is (c.lengths.ensures ∙ lengths_after _ _ _ _ _ _ _ (of_helper _ _ _ _ s.requires) (wide_node s.args.g s.args.helper _ c.widened_in-size.ensures.0) c.widened_in-wanted.ensures.0))
+returns-in_err-lengths c =
+    rw (handed_on c.from_residual.result _ c.from_residual.ensures.1) (let s = c in
+    call_refused _ _ _ _ _ (stopped _ _ _ c.in_err-lengths.was (c.lengths.ensures ∙ lengths_after _ _ _ _ _ _ _ (of_helper _ _ _ _ s.requires) (wide_node s.args.g s.args.helper _ c.widened_in-size.ensures.0) c.widened_in-wanted.ensures.0)))
 
-pub returns-in-Fine : goal.returns-in-Fine
+pub returns : goal.returns
 unfolding help_refusal repair_letters
-returns-in-Fine c =
+returns c =
     let s = c in
-    call_fine _ _ _ _ _ _ (fine _ _ c.in-Fine.is (c.lengths.ensures ∙ lengths_after _ _ _ _ _ _ _ (of_helper _ _ _ _ s.requires) (wide_node s.args.g s.args.helper _ c.widened_in-size.ensures.0) c.widened_in-wanted.ensures.0)) refl c.sum_packets.ensures
+    call_fine _ _ _ _ _ _ (fine _ _ c.in_ok-lengths.was (c.lengths.ensures ∙ lengths_after _ _ _ _ _ _ _ (of_helper _ _ _ _ s.requires) (wide_node s.args.g s.args.helper _ c.widened_in-size.ensures.0) c.widened_in-wanted.ensures.0)) refl c.sum_packets.ensures

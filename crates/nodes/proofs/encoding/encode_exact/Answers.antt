@@ -2,7 +2,7 @@
 use native.Mathlib.Omega.{arith}
 use mathlib.Core.Path.{refl, ◌∙◌}
 use Rattle.group.proofs.InRange.{of_node}
-use Rattle.group.proofs.Refusals.{exact_lengths, stopped, fine}
+use Rattle.group.proofs.Refusals.{handed_on, exact_lengths, stopped, fine}
 use Rattle.lengths.proofs.Sizes.{node_at_most}
 use Rattle.nodes.specs.Calls.{encode_refusal}
 use Rattle.group.proofs.Called.{call_refused, call_fine, lengths_after}
@@ -17,17 +17,17 @@ overflow_mul-g c =
 pub encode_packets-requires : goal.encode_packets-requires
 encode_packets-requires c =
     let s = c in
-    let w = exact_lengths _ _ _ _ (fine _ _ c.in-Fine.is c.lengths.ensures) in
+    let w = exact_lengths _ _ _ _ (fine _ _ c.in_ok-lengths.was c.lengths.ensures) in
     record { table = c.all-table.ensures; node = (s.requires, wide_packet s.args.g s.args.node _ c.widened_in-size.ensures.0); lengths = (w.0 ∙ c.file-wanted_file.ensures, w.1 ∙ wide_node s.args.g s.args.node _ c.widened_in-size.ensures.0) }
 
-pub returns-in-Refused : goal.returns-in-Refused
+pub returns-in_err-lengths : goal.returns-in_err-lengths
 unfolding encode_refusal
-returns-in-Refused c =
-    let s = c in
-    call_refused _ _ _ _ _ (stopped _ _ _ c.in-Refused.is (c.lengths.ensures ∙ lengths_after _ _ _ _ _ _ _ (of_node _ _ s.requires) c.file-wanted_file.ensures (wide_node s.args.g s.args.node _ c.widened_in-size.ensures.0)))
+returns-in_err-lengths c =
+    rw (handed_on c.from_residual.result _ c.from_residual.ensures.1) (let s = c in
+    call_refused _ _ _ _ _ (stopped _ _ _ c.in_err-lengths.was (c.lengths.ensures ∙ lengths_after _ _ _ _ _ _ _ (of_node _ _ s.requires) c.file-wanted_file.ensures (wide_node s.args.g s.args.node _ c.widened_in-size.ensures.0))))
 
-pub returns-in-Fine : goal.returns-in-Fine
+pub returns : goal.returns
 unfolding encode_refusal
-returns-in-Fine c =
+returns c =
     let s = c in
-    call_fine _ _ _ _ _ _ (fine _ _ c.in-Fine.is (c.lengths.ensures ∙ lengths_after _ _ _ _ _ _ _ (of_node _ _ s.requires) c.file-wanted_file.ensures (wide_node s.args.g s.args.node _ c.widened_in-size.ensures.0))) refl c.encode_packets.ensures
+    call_fine _ _ _ _ _ _ (fine _ _ c.in_ok-lengths.was (c.lengths.ensures ∙ lengths_after _ _ _ _ _ _ _ (of_node _ _ s.requires) c.file-wanted_file.ensures (wide_node s.args.g s.args.node _ c.widened_in-size.ensures.0))) refl c.encode_packets.ensures

@@ -1,12 +1,12 @@
 -- `checks::node` meets its contract.
-use Rattle.group.proofs.Refusals.{passed_on, went_on}
+use Rattle.group.proofs.Refusals.{handed_on, passed_on, went_on}
 use Rattle.preview_numbers.specs.Previews.{preview_node_refusal}
 use Rattle.preview_numbers.proofs.checks.node.Goals as goal
 
-pub returns-in-Refused : goal.returns-in-Refused
+pub returns-in_err-group : goal.returns-in_err-group
 unfolding preview_node_refusal
-returns-in-Refused c = passed_on _ _ _ _ c.in-Refused.is c.group.ensures
+returns-in_err-group c = rw (handed_on c.from_residual.result _ c.from_residual.ensures.1) (passed_on _ _ _ _ c.in_err-group.was c.group.ensures)
 
-pub returns-in-Fine : goal.returns-in-Fine
+pub returns : goal.returns
 unfolding preview_node_refusal
-returns-in-Fine c = went_on _ _ _ _ c.in-Fine.is c.group.ensures c.id.ensures
+returns c = went_on _ _ _ _ c.in_ok-group.was c.group.ensures c.id.ensures

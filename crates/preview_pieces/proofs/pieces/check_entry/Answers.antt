@@ -1,12 +1,12 @@
 -- `pieces::check_entry` meets its contract: refusals 1 and 2 come first.
-use Rattle.group.proofs.Refusals.{passed_on, went_on}
+use Rattle.group.proofs.Refusals.{handed_on, passed_on, went_on}
 use Rattle.preview_pieces.specs.Calls.{rank_refusal, preview_entry_refusal}
 use Rattle.preview_pieces.proofs.pieces.check_entry.Goals as goal
 
-pub returns-in-Refused : goal.returns-in-Refused
+pub returns-in_err-group : goal.returns-in_err-group
 unfolding preview_entry_refusal
-returns-in-Refused c = passed_on _ _ _ _ c.in-Refused.is c.group.ensures
+returns-in_err-group c = rw (handed_on c.from_residual.result _ c.from_residual.ensures.1) (passed_on _ _ _ _ c.in_err-group.was c.group.ensures)
 
-pub returns-in-Fine : goal.returns-in-Fine
+pub returns : goal.returns
 unfolding preview_entry_refusal rank_refusal
-returns-in-Fine c = went_on _ _ _ _ c.in-Fine.is c.group.ensures c.one_of.ensures
+returns c = went_on _ _ _ _ c.in_ok-group.was c.group.ensures c.one_of.ensures

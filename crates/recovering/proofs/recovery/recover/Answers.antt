@@ -1,12 +1,12 @@
 -- `recovery::recover` meets its contract: refusals 1 to 4 come first.
-use Rattle.group.proofs.Refusals.{fine, passed_on}
+use Rattle.group.proofs.Refusals.{handed_on, fine, passed_on}
 use Rattle.recovering.specs.Calls.{recover_refusal}
 use Rattle.recovering.proofs.RecoverCalls.{readers_of, recover_refused}
 use Rattle.recovering.proofs.recovery.recover.Goals as goal
 
 pub recover_exact-requires : goal.recover_exact-requires
-recover_exact-requires c = readers_of _ _ (fine _ _ c.in-Fine.is c.check_readers.ensures)
+recover_exact-requires c = readers_of _ _ (fine _ _ c.in_ok-check_readers.was c.check_readers.ensures)
 
-pub returns-in-Refused : goal.returns-in-Refused
+pub returns-in_err-check_readers : goal.returns-in_err-check_readers
 unfolding recover_refusal
-returns-in-Refused c = recover_refused _ _ _ _ (passed_on _ _ _ _ c.in-Refused.is c.check_readers.ensures)
+returns-in_err-check_readers c = rw (handed_on c.from_residual.result _ c.from_residual.ensures.1) (recover_refused _ _ _ _ (passed_on _ _ _ _ c.in_err-check_readers.was c.check_readers.ensures))

@@ -4,7 +4,7 @@ use Prim.Native.Nat.{ℕ}
 use native.Mathlib.Omega.{arith}
 use Rattle.group.specs.Answers.{first}
 use Rattle.group.specs.Ranges.{input_refusal, output_refusal}
-use Rattle.group.proofs.Refusals.{exact_lengths, stopped, fine}
+use Rattle.group.proofs.Refusals.{handed_on, exact_lengths, stopped, fine}
 use Rattle.records.specs.Records.{size_for}
 use Rattle.kinds.specs.Kinds.{row_for_kind, head_size}
 use Rattle.kinds.proofs.RowLaws.{size_small, total_fine}
@@ -52,21 +52,21 @@ pub fill-requires : goal.fill-requires
 fill-requires c =
     let s = c in
     let k = c in
-    let e = exact s.args.head _ _ (fine _ _ c.in-Fine.is (checked s.args.head _ _ _ _ _ _ s.requires k.total-letters.ensures k.head_size.ensures k.size_for-bytes.ensures k.lengths.ensures)) in
+    let e = exact s.args.head _ _ (fine _ _ c.in_ok-lengths.was (checked s.args.head _ _ _ _ _ _ s.requires k.total-letters.ensures k.head_size.ensures k.size_for-bytes.ensures k.lengths.ensures)) in
     (fits_in_range s.args.head (fine_numbers s.args.head (omega arith) s.requires), omega (arith, e.0, total_small s.args.head, total_fine s.args.head.kind s.args.head.group s.args.head.node s.requires), e.1)
 
-pub returns-in-Refused : goal.returns-in-Refused
-returns-in-Refused c =
-    let s = c in
+pub returns-in_err-lengths : goal.returns-in_err-lengths
+returns-in_err-lengths c =
+    rw (handed_on c.from_residual.result _ c.from_residual.ensures.1) (let s = c in
     let k = c in
     write_refused _ _ _ _ _
-    (stopped _ _ _ c.in-Refused.is (checked s.args.head _ _ _ _ _ _ s.requires k.total-letters.ensures k.head_size.ensures k.size_for-bytes.ensures k.lengths.ensures))
+    (stopped _ _ _ c.in_err-lengths.was (checked s.args.head _ _ _ _ _ _ s.requires k.total-letters.ensures k.head_size.ensures k.size_for-bytes.ensures k.lengths.ensures)))
 
-pub returns-in-Fine : goal.returns-in-Fine
-returns-in-Fine c =
+pub returns : goal.returns
+returns c =
     let m = c in
     let s = m in
     let k = m in
     write_done _ _ _ _ _ _
-    (fine _ _ m.in-Fine.is (checked s.args.head _ _ _ _ _ _ s.requires k.total-letters.ensures k.head_size.ensures k.size_for-bytes.ensures k.lengths.ensures))
+    (fine _ _ m.in_ok-lengths.was (checked s.args.head _ _ _ _ _ _ s.requires k.total-letters.ensures k.head_size.ensures k.size_for-bytes.ensures k.lengths.ensures))
     (bytes s.args.head _ _ _ s.requires k.total-letters.ensures k.head_size.ensures k.size_for-bytes.ensures) c.fill.ensures
