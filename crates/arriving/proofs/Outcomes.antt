@@ -19,7 +19,9 @@ use Rattle.heads.specs.declared.Head.{Head}
 use Rattle.kinds.specs.Kinds.{head_size}
 use Rattle.heads.specs.Heads.{heads}
 use Rattle.heads.proofs.HeadLaws.{lawful, size_told}
-use Rattle.judging.specs.declared.Judgment.{Judgment}
+use Rattle.std.specs.Prelude.{Result, Ok, Err}
+use Rattle.judging.specs.declared.Fault.{Fault}
+use Rattle.judging.specs.Judging.{Judgment}
 use Rattle.judging.specs.Judging.{outcome_of, Judges, CanStandTo}
 use Rattle.judging.specs.Steps.Judged.{judgment_at}
 use Rattle.judging.proofs.Verdicts.{found_wrong, one_good}
@@ -72,16 +74,16 @@ changed f (Outcome.refused n) = Outcome.refused n
 changed f (Outcome.wrong n q) = Outcome.wrong n q
 
 -- what is coming is told by its numbers
-coming_from : Outcome (Head × ℕ) → Coming
-coming_from (Outcome.fine v) = Coming.Share v.0 v.1
-coming_from (Outcome.refused n) = Coming.Refused (refusal_of n)
-coming_from (Outcome.wrong n q) = Coming.Malformed (refusal_of n) q
+coming_from : Outcome (Head × ℕ) → Result Coming Fault
+coming_from (Outcome.fine v) = Ok (record { head = v.0; bytes = v.1 })
+coming_from (Outcome.refused n) = Err (Fault.Refused (refusal_of n))
+coming_from (Outcome.wrong n q) = Err (Fault.Malformed (refusal_of n) q)
 
-coming_back : (r : Coming) → coming_from (coming_of r) ≡ r
+coming_back : (r : Result Coming Fault) → coming_from (coming_of r) ≡ r
 unfolding coming_from
-coming_back (Coming.Share h bytes) = refl
-coming_back (Coming.Refused r) = ap Coming.Refused (named_number r)
-coming_back (Coming.Malformed r q) = ap (λ r. Coming.Malformed r q) (named_number r)
+coming_back (Ok c) = refl
+coming_back (Err (Fault.Refused r)) = ap (λ r. Err (Fault.Refused r)) (named_number r)
+coming_back (Err (Fault.Malformed r q)) = ap (λ r. Err (Fault.Malformed r q)) (named_number r)
 
 -- what is told from a state is told by its numbers, whichever bytes lead there
 module _ (s : Arriving) where
@@ -149,5 +151,5 @@ module _ (s : Arriving) where
   same_coming (Announces.malformed n q j) (Announces.early xs bytes e few stand) = absurd (not_wrong xs bytes e stand j)
   same_coming (Announces.malformed n q j) (Announces.malformed n' q' j') = ap (changed (λ h. (h, 0))) (same_judgment j j')
 
-  pub coming_once : (r r' : Coming) → Announces s (coming_of r) → Announces s (coming_of r') → r ≡ r'
+  pub coming_once : (r r' : Result Coming Fault) → Announces s (coming_of r) → Announces s (coming_of r') → r ≡ r'
   coming_once r r' a b = sym (coming_back r) ∙ ap coming_from (same_coming a b) ∙ coming_back r'

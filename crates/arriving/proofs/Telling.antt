@@ -22,7 +22,9 @@ use Rattle.heads.specs.declared.Head.{Head}
 use Rattle.kinds.specs.Kinds.{head_size}
 use Rattle.heads.specs.Heads.{heads}
 use Rattle.heads.proofs.HeadLaws.{lawful, size_told, same_numbers}
-use Rattle.judging.specs.declared.Judgment.{Judgment}
+use Rattle.std.specs.Prelude.{Ok, Err}
+use Rattle.judging.specs.declared.Fault.{Fault}
+use Rattle.judging.specs.Judging.{Judgment}
 use Rattle.judging.specs.Judging.{outcome_of, Judges, CanStandTo}
 use Rattle.refusing.specs.Steps.Refusing.{refusal_at}
 use Rattle.judging.specs.Steps.Judged.{judgment_at}
@@ -46,7 +48,7 @@ module _ (s : Arriving) (T : ℕ) (total : T ≡ heads.total (head_so_far s)) (r
       (omega (arith, w.behind.long)) e)
       (λ some.
       let w = led_wrong xs bytes s led some in
-      let bad : r ≡ Judgment.Malformed (refusal_at (head_size s.kind) T s.at) s.at =
+      let bad : r ≡ Err (Fault.Malformed (refusal_at (head_size s.kind) T s.at) s.at) =
       e ∙ simp (lt-ltb s.at (s.at + s.wrong) (omega (arith, some)))
       in
       let same : refusal_at (head_size s.kind) T s.at ≡ refusal_at (size_in heads xs) (total_in heads xs) s.at =
@@ -54,7 +56,7 @@ module _ (s : Arriving) (T : ℕ) (total : T ≡ heads.total (head_so_far s)) (r
       ∙ same_refusal (take s.at xs) xs s.at (λ i l. get_or-take s.at xs i 0 l)
       in
       judges xs bytes s.at w.stops (size_in heads xs) (heads.head_in xs) (total_in heads xs) (length xs) r refl refl refl refl
-      (bad ∙ ap (λ r. Judgment.Malformed r s.at) same ∙ sym (simp (lt-ltb s.at (length xs) w.past))))
+      (bad ∙ ap (λ r. Err (Fault.Malformed r s.at)) same ∙ sym (simp (lt-ltb s.at (length xs) w.past))))
       (eq_or_ne s.wrong 0)
 
   pub judged_right : Leads s → JudgesState s (outcome_of r)
@@ -78,13 +80,20 @@ none_wrong xs bytes s e stand =
 -- A state that isn't judged malformed, but as one of the first two cases, is that of bytes that all stand.
 module _ (s : Arriving) where
   abbrev Fine : Judgment → Type 0
-  Fine r = (x : Refusal) (q : ℕ) → r ≡ Judgment.Malformed x q → ⊥
+  Fine r = (x : Refusal) (q : ℕ) → r ≡ Err (Fault.Malformed x q) → ⊥
+
+  pub share_stands : (h : Head) → JudgesState s (Outcome.fine h) → Leads s × (s.wrong ≡ 0)
+  share_stands h (JudgesState.led xs bytes e _ j) =
+      ((xs, bytes, e), none_wrong xs bytes s e (either_stands heads lawful xs (let w = found_share j in inl (h, w.0, w.1))))
+
+  pub beginning_stands : (n : ℕ) → JudgesState s (Outcome.refused n) → Leads s × (s.wrong ≡ 0)
+  beginning_stands n (JudgesState.led xs bytes e _ j) =
+      ((xs, bytes, e), none_wrong xs bytes s e (either_stands heads lawful xs (inr (found_beginning j).1)))
 
   pub judged_fine : (r : Judgment) → JudgesState s (outcome_of r) → Fine r → Leads s × (s.wrong ≡ 0)
-  judged_fine (Judgment.Complete h) (JudgesState.led xs bytes e _ j) fine =
-      ((xs, bytes, e), none_wrong xs bytes s e (either_stands heads lawful xs (let w = found_share j in inl (h, w.0, w.1))))
-  judged_fine (Judgment.Refused r) (JudgesState.led xs bytes e _ j) fine = ((xs, bytes, e), none_wrong xs bytes s e (either_stands heads lawful xs (inr (found_beginning j).1)))
-  judged_fine (Judgment.Malformed r q) j fine = absurd (fine r q refl)
+  judged_fine (Ok h) j fine = share_stands h j
+  judged_fine (Err (Fault.Refused r)) j fine = beginning_stands (refusal_number r) j
+  judged_fine (Err (Fault.Malformed r q)) j fine = absurd (fine r q refl)
 
 -- a share that begins with bytes whose head is in has this head, and as many bytes as it says
 pub share_told :

@@ -1,5 +1,5 @@
 -- What the calls over a share that arrives promise, in the numbers of documents 01 and 02 (docs/SCHEME.md, 11 and 16).
-use Rattle.std.specs.Prelude.{◌≡◌, List, ◌++◌, ℕ, ◌≤◌, ◌<◌, length}
+use Rattle.std.specs.Prelude.{Result, Ok, Err, ◌≡◌, List, ◌++◌, ℕ, ◌≤◌, ◌<◌, length}
 use Rattle.letters.specs.Lanes.{Bytes}
 use Rattle.group.specs.declared.Refusal.TheVariants.{Unfinished, Kind}
 use Rattle.group.specs.Answers.{refusal_number, Outcome}
@@ -10,6 +10,7 @@ use Rattle.heads.specs.declared.Head.{Head}
 use Rattle.heads.specs.Heads.{heads}
 use Rattle.judging.specs.Judging.{Judges, CanStandTo}
 use Rattle.arriving.specs.declared.Arriving.{Arriving}
+use Rattle.judging.specs.declared.Fault.{Fault}
 use Rattle.arriving.specs.declared.Coming.{Coming}
 use Rattle.arriving.specs.States.{state_of, Leads}
 
@@ -29,10 +30,10 @@ pub data GoodBytesOf (s : Arriving) : ℕ → Type 0 where
   forged : (Leads s → ⊥) → GoodBytesOf s 0
 
 -- what is coming in numbers: a share's head and its bytes; a refusal's number; or that number with the place
-abbrev pub coming_of : Coming → Outcome (Head × ℕ)
-coming_of (Coming.Share h bytes) = Outcome.fine (h, bytes)
-coming_of (Coming.Refused r) = Outcome.refused (refusal_number r)
-coming_of (Coming.Malformed r q) = Outcome.wrong (refusal_number r) q
+abbrev pub coming_of : Result Coming Fault → Outcome (Head × ℕ)
+coming_of (Ok c) = Outcome.fine (c.head, c.bytes)
+coming_of (Err (Fault.Refused r)) = Outcome.refused (refusal_number r)
+coming_of (Err (Fault.Malformed r q)) = Outcome.wrong (refusal_number r) q
 
 -- The head and the bytes of the share that is coming: of one that begins with the bytes so far, as soon as the head is in; wrong as the state is
 -- judged.

@@ -4,7 +4,7 @@
 
 pub mod bursts;
 
-ghost use Rattle.std.specs.Prelude.{◌≡◌, true, [], ◌↔◌, ◌^◌, ◌<◌};
+ghost use Rattle.std.specs.Prelude.{MatchResult, Err, ◌≡◌, true, [], ◌↔◌, ◌^◌, ◌<◌};
 ghost use Rattle.heads.specs.Heads.{heads};
 ghost use Rattle.judging.specs.Judging.{outcome_of};
 ghost use Rattle.reaching.specs.Numbers.{number_at};
@@ -15,14 +15,14 @@ ghost use Rattle.arriving.specs.Calls.{Takes, JudgesState, GoodBytesOf, Announce
 
 use group::Refusal;
 use heads::{Head, bytes as head_bytes};
-use judging::Judgment;
+use judging::Fault;
 use records::sizes;
 
 // The last batch number.
 const LAST_BATCH: usize = 4294967295;
 
 // The state. It is a function of all bytes so far, `state_of` in specs/, and of nothing else.
-#[derive(Clone, Copy)]
+#[derive(Clone, Copy, Debug, PartialEq, Eq)]
 pub struct Arriving {
     // How many bytes can stand so far. Once one couldn't, this is its index, and nothing is counted on.
     pub at: usize,
@@ -38,15 +38,11 @@ pub struct Arriving {
     pub kind: usize,
 }
 
-// The share that is coming, as far as its head tells.
-#[derive(Clone, Copy)]
-pub enum Coming {
-    // Its head, and how many bytes it will have.
-    Share(Head, usize),
-    // 7: the head isn't in.
-    Refused(Refusal),
-    // 8 to 12, and the index of the first byte that can't stand there, as the judge has them.
-    Malformed(Refusal, usize),
+// The share that is coming, as soon as its head is in: that head, and how many bytes it will have.
+#[derive(Clone, Copy, Debug, PartialEq, Eq)]
+pub struct Coming {
+    pub head: Head,
+    pub bytes: usize,
 }
 
 // A state from its head.
@@ -202,16 +198,16 @@ impl Arriving {
 
     // What all bytes so far are: a share and its head, the beginning of one (7), or what is wrong with them (8 to 12), and where. A state to which no
     // bytes lead is judged 8 at 0.
-    pub fn judge(self) -> Judgment
+    pub fn judge(self) -> Result<Head, Fault>
         ensures { JudgesState self (outcome_of result) }
     {
         if LAST_BATCH < self.batch {
-            return Judgment::Malformed(Refusal::Kind, 0);
+            return Err(Fault::Malformed(Refusal::Kind, 0));
         }
         let head = self.head_so_far();
         let letters = head_bytes::total(head);
         if !reaching::led(head, letters, self.at, self.wrong) {
-            return Judgment::Malformed(Refusal::Kind, 0);
+            return Err(Fault::Malformed(Refusal::Kind, 0));
         }
         // Where a byte was wrong, more bytes came than can stand; how many more makes no difference.
         judging::judged(head, letters, self.at, self.at + self.wrong)
@@ -227,20 +223,32 @@ impl Arriving {
         0
     }
 
-    // Whose share is coming and how many bytes it will have, as soon as its head is in, complete or not.
-    pub fn coming(self) -> Coming
+    // All bytes so far stand; else what is wrong with them, and where, as the judge has it.
+    fn all_stand(self) -> Result<(), Fault>
+        ensures { MatchResult result (λ u. (Leads self) × (self.wrong ≡ 0)) (λ fault. Announces self (coming_of (Err fault))) }
+    {
+        match self.judge() {
+            Ok(_) => Ok(()),
+            Err(fault) => match fault {
+                Fault::Refused(_) => Ok(()),
+                Fault::Malformed(_, _) => Err(fault),
+            },
+        }
+    }
+
+    // Whose share is coming and how many bytes it will have, as soon as its head is in, complete or not. 7 while it isn't, and 8 to 12 with the index of the first byte that can't
+    // stand there, as the judge has them.
+    pub fn coming(self) -> Result<Coming, Fault>
         ensures { Announces self (coming_of result) }
     {
-        if let Judgment::Malformed(refusal, at) = self.judge() {
-            return Coming::Malformed(refusal, at);
-        }
+        self.all_stand()?;
         if self.at < kinds::head_size(self.kind) {
-            return Coming::Refused(Refusal::Unfinished);
+            return Err(Fault::Refused(Refusal::Unfinished));
         }
         let head = self.head_so_far();
         let front = kinds::head_size(head.kind);
         let bytes = sizes::size_for(front, head_bytes::total(head));
-        Coming::Share(head, bytes)
+        Ok(Coming { head, bytes })
     }
 }
 

@@ -8,6 +8,7 @@ ghost use Rattle.c_arriving.specs.SoFar.{JudgesWords, CountsWords, TellsComing, 
 
 use arriving::{Arriving, Coming, bursts};
 use c_state::WORDS;
+use judging::Fault;
 
 // The state of no bytes. Refusal: 5.
 #[unsafe(no_mangle)]
@@ -67,20 +68,19 @@ pub extern "C" fn dulvaspen_arriving_good_bytes(state: &[usize], bytes: &mut usi
 }
 
 // Tells the share that is coming: its number, and its head and its bytes where there is room for seven numbers, else 6.
-fn put_coming(coming: Coming, head: &mut [usize], bytes: &mut usize) -> usize
+fn put_coming(coming: Result<Coming, Fault>, head: &mut [usize], bytes: &mut usize) -> usize
     ensures { TellsComing head.old bytes.old (coming_of coming) result head.new bytes.new }
 {
     match coming {
-        Coming::Share(found, count) => {
+        Ok(share) => {
             if head.len() != 7 {
                 return 6;
             }
-            c_judgment::put_head(found, head);
-            *bytes = count;
+            c_judgment::put_head(share.head, head);
+            *bytes = share.bytes;
             0
         }
-        Coming::Refused(refusal) => group::refusal_number(refusal),
-        Coming::Malformed(refusal, _) => group::refusal_number(refusal),
+        Err(fault) => fault.number(),
     }
 }
 

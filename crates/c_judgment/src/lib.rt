@@ -6,7 +6,7 @@ ghost use Rattle.judging.specs.Judging.{outcome_of};
 ghost use Rattle.c_judgment.specs.Judgments.{seven, TellsJudgment};
 
 use heads::Head;
-use judging::Judgment;
+use judging::Fault;
 
 // Puts a head's seven numbers.
 pub fn put_head(head: Head, into: &mut [usize])
@@ -23,18 +23,17 @@ pub fn put_head(head: Head, into: &mut [usize])
 }
 
 // Tells a judgment: its number, and a share's head where there is room for seven numbers, else 6.
-pub fn put_judgment(judgment: Judgment, head: &mut [usize]) -> usize
+pub fn put_judgment(judgment: Result<Head, Fault>, head: &mut [usize]) -> usize
     ensures { TellsJudgment head.old (outcome_of judgment) result head.new }
 {
     match judgment {
-        Judgment::Complete(found) => {
+        Ok(found) => {
             if head.len() != 7 {
                 return 6;
             }
             put_head(found, head);
             0
         }
-        Judgment::Refused(refusal) => group::refusal_number(refusal),
-        Judgment::Malformed(refusal, _) => group::refusal_number(refusal),
+        Err(fault) => fault.number(),
     }
 }

@@ -108,8 +108,8 @@ went_on k a b n e h q = q ∙ sym (first_fine a b (fine k a e h))
 pub skipped : (a b n : ℕ) → a ≡ 0 → n ≡ b → n ≡ first a b
 skipped a b n z e = e ∙ sym (first_fine a b z)
 
--- where `?` hands a refusal on, that refusal comes back
-pub handed_on : {A : Type 0} (r : Result A Refusal) (e : Refusal) → IsErrAnd r (λ x. x ≡ e) → r ≡ Err e
+-- where `?` hands on what is wrong, that comes back
+pub handed_on : {A E : Type 0} (r : Result A E) (e : E) → IsErrAnd r (λ x. x ≡ e) → r ≡ Err e
 handed_on r e h = let p = err_from_is_err_and r h in p.1 ∙ ap Err p.2
 
 -- what an answer that is told apart tells

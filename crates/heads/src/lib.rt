@@ -6,7 +6,7 @@ pub mod bytes;
 use group::Group;
 
 // A share's head: whose letters it holds, of which batch, and of which kind.
-#[derive(Clone, Copy)]
+#[derive(Clone, Copy, Debug, PartialEq, Eq)]
 pub struct Head {
     pub group: Group,
     pub node: usize,

@@ -13,7 +13,9 @@ use Rattle.layout.proofs.Judgments.{not_share_and_beginning, one_head, one_of_th
 use Rattle.heads.specs.declared.Head.{Head}
 use Rattle.heads.specs.Heads.{heads}
 use Rattle.heads.proofs.HeadLaws.{lawful}
-use Rattle.judging.specs.declared.Judgment.{Judgment}
+use Rattle.std.specs.Prelude.{Ok, Err}
+use Rattle.judging.specs.declared.Fault.{Fault}
+use Rattle.judging.specs.Judging.{Judgment}
 use Rattle.judging.specs.Judging.{outcome_of, Wrong, Judges}
 use Rattle.refusing.specs.Steps.Refusing.{refusal_at}
 use Rattle.judging.proofs.WouldStand.{wrong_at, wrong_once}
@@ -38,15 +40,15 @@ same_judging {xs} (Judges.malformed r q w) (Judges.malformed r' q' w') = let e =
 
 -- a judgment's numbers tell it
 judgment_from : Outcome Head → Judgment
-judgment_from (Outcome.fine h) = Judgment.Complete h
-judgment_from (Outcome.refused n) = Judgment.Refused (refusal_of n)
-judgment_from (Outcome.wrong n q) = Judgment.Malformed (refusal_of n) q
+judgment_from (Outcome.fine h) = Ok h
+judgment_from (Outcome.refused n) = Err (Fault.Refused (refusal_of n))
+judgment_from (Outcome.wrong n q) = Err (Fault.Malformed (refusal_of n) q)
 
 judgment_back : (r : Judgment) → judgment_from (outcome_of r) ≡ r
 unfolding judgment_from
-judgment_back (Judgment.Complete h) = refl
-judgment_back (Judgment.Refused r) = ap Judgment.Refused (named_number r)
-judgment_back (Judgment.Malformed r q) = ap (λ r. Judgment.Malformed r q) (named_number r)
+judgment_back (Ok h) = refl
+judgment_back (Err (Fault.Refused r)) = ap (λ r. Err (Fault.Refused r)) (named_number r)
+judgment_back (Err (Fault.Malformed r q)) = ap (λ r. Err (Fault.Malformed r q)) (named_number r)
 
 pub outcome_once : (r s : Judgment) → outcome_of r ≡ outcome_of s → r ≡ s
 outcome_once r s e = sym (judgment_back r) ∙ ap judgment_from e ∙ judgment_back s

@@ -19,7 +19,9 @@ use Rattle.layout.proofs.Accepted.{Accepted, own_letters}
 use Rattle.layout.proofs.Completing.{can_stand, whole_share}
 use Rattle.layout.proofs.Judgments.{not_both, is_beginning, accepted_take, bytes_take, stands_before, offends_if, wrong_if}
 use Rattle.heads.specs.declared.Head.{Head}
-use Rattle.judging.specs.declared.Judgment.{Judgment}
+use Rattle.std.specs.Prelude.{Ok, Err}
+use Rattle.judging.specs.declared.Fault.{Fault}
+use Rattle.judging.specs.Judging.{Judgment}
 use Rattle.heads.specs.Heads.{heads}
 use Rattle.judging.specs.Judging.{outcome_of, Wrong, Judges, CanStandTo}
 use Rattle.searching.specs.Steps.Search.{Stops}
@@ -47,18 +49,18 @@ module _ (xs : List ℕ) (bytes : Bytes xs) (q : ℕ) (s : Stops xs q) where
       let a : Accepted heads xs = λ p h. s.before p (omega arith) in
       ⊎_elim
       (λ whole.
-      let c : r ≡ Judgment.Complete (heads.head_in xs) =
+      let c : r ≡ Ok (heads.head_in xs) =
       e ∙ simp (le-ltb q (length xs) all, eq-eqb (length xs) (size_for (size_in heads xs) (total_in heads xs)) whole)
       in
       rw c (Judges.complete (heads.head_in xs) (own_letters heads xs) (whole_share heads lawful xs bytes a whole)))
       (λ more.
-      let c : r ≡ Judgment.Refused Unfinished =
+      let c : r ≡ Err (Fault.Refused Unfinished) =
       e ∙ simp (le-ltb q (length xs) all, ne_eqb (length xs) (size_for (size_in heads xs) (total_in heads xs)) more)
       in
       rw c (Judges.unfinished (is_beginning heads lawful xs bytes a more)))
       (eq_or_ne (length xs) (size_for (size_in heads xs) (total_in heads xs))))
       (λ wrong.
-      let c : r ≡ Judgment.Malformed (refusal_at (size_in heads xs) (total_in heads xs) q) q = e ∙ simp (lt-ltb q (length xs) wrong) in
+      let c : r ≡ Err (Fault.Malformed (refusal_at (size_in heads xs) (total_in heads xs) q) q) = e ∙ simp (lt-ltb q (length xs) wrong) in
       rw c (Judges.malformed _ q (wrong_at xs q bytes ((stand_to xs bytes q s).next wrong))))
       (le_or_lt (length xs) q)
 

@@ -1,5 +1,5 @@
 -- What judging bytes promises, in the numbers of documents 01 and 02 (docs/SCHEME.md, 9 and 11).
-use Rattle.std.specs.Prelude.{List, ◌++◌, ℕ, suc, ◌+◌, ◌*◌, ◌≤◌, ◌<◌, length, take}
+use Rattle.std.specs.Prelude.{Result, Ok, Err, List, ◌++◌, ℕ, suc, ◌+◌, ◌*◌, ◌≤◌, ◌<◌, length, take}
 use Rattle.group.specs.declared.Refusal.{Refusal}
 use Rattle.group.specs.declared.Refusal.TheVariants.{Unfinished, Kind, HeadNumber, Filler, Total, AfterEnd}
 use Rattle.group.specs.Answers.{refusal_number, Outcome}
@@ -7,14 +7,23 @@ use Rattle.records.specs.Records.{block_letters, block_size, total_bytes, blocks
 use Rattle.layout.specs.Share.{ShareOf}
 use Rattle.layout.specs.Judgment.{IsShareOf, IsBeginning, CanStand, Offends}
 use Rattle.heads.specs.declared.Head.{Head}
-use Rattle.judging.specs.declared.Judgment.{Judgment}
+use Rattle.judging.specs.declared.Fault.{Fault}
 use Rattle.heads.specs.Heads.{heads}
+
+-- what judging answers: the head of a share, or why the bytes are none
+abbrev pub Judgment : Type 0
+Judgment = Result Head Fault
+
+-- the number of what bytes are that are no share
+abbrev pub fault_number : Fault → ℕ
+fault_number (Fault.Refused r) = refusal_number r
+fault_number (Fault.Malformed r q) = refusal_number r
 
 -- a judgment in numbers: a share's head; a refusal's number; or that number with the index of the first byte that can't stand
 abbrev pub outcome_of : Judgment → Outcome Head
-outcome_of (Judgment.Complete h) = Outcome.fine h
-outcome_of (Judgment.Refused r) = Outcome.refused (refusal_number r)
-outcome_of (Judgment.Malformed r q) = Outcome.wrong (refusal_number r) q
+outcome_of (Ok h) = Outcome.fine h
+outcome_of (Err (Fault.Refused r)) = Outcome.refused (refusal_number r)
+outcome_of (Err (Fault.Malformed r q)) = Outcome.wrong (refusal_number r) q
 
 -- Where the byte at index q would stand in a share of so many letters whose head has this size, and how one is refused that can't stand there.
 pub data WouldStand (front letters : ℕ) : ℕ → Refusal → Type 0 where

@@ -6,7 +6,7 @@ use lib.ListN.{length}
 use Rattle.group.specs.Answers.{refusal_number, Outcome}
 use Rattle.layout.proofs.Judgments.{not_share_and_beginning, one_head, one_letters, offends_neither}
 use Rattle.heads.specs.declared.Head.{Head}
-use Rattle.judging.specs.declared.Judgment.{Judgment}
+use Rattle.judging.specs.Judging.{Judgment}
 use Rattle.reading.specs.Reading.{Reads}
 use Rattle.heads.specs.Heads.{heads}
 use Rattle.heads.proofs.HeadLaws.{lawful}

@@ -15,7 +15,9 @@ use Rattle.layout.proofs.Judgments.{share_front, share_size, share_total, letter
 use Rattle.heads.specs.declared.Head.{Head}
 use Rattle.heads.specs.Heads.{heads}
 use Rattle.reading.specs.Reading.{Reads}
-use Rattle.judging.specs.Judging.{Judges}
+use Rattle.std.specs.Prelude.{Ok, Err}
+use Rattle.judging.specs.declared.Fault.{Fault}
+use Rattle.judging.specs.Judging.{outcome_of, Judges}
 use Rattle.kinds.specs.Kinds.{head_size}
 use Rattle.heads.proofs.HeadLaws.{lawful, record_long}
 
@@ -26,6 +28,10 @@ found_refused before (Judges.unfinished b) = Reads.unfinished b
 pub found_malformed :
     (before : List ℕ) {xs : List ℕ} {n q : ℕ} → Judges xs (Outcome.wrong n q) → Reads xs before (Outcome.wrong n q) before
 found_malformed before (Judges.malformed r q w) = Reads.malformed r q w
+
+pub found_fault : (before : List ℕ) {xs : List ℕ} (f : Fault) → Judges xs (outcome_of (Err f)) → Reads xs before (outcome_of (Err f)) before
+found_fault before (Fault.Refused r) j = found_refused before j
+found_fault before (Fault.Malformed r q) j = found_malformed before j
 
 -- reading a share into a buffer of some length
 module _ (h : Head) (xs before : List ℕ) (s : IsShareOf heads h xs) where

@@ -8,28 +8,25 @@ ghost use Rattle.reading.specs.Reading.{Reads};
 
 use group::Refusal;
 use heads::{Head, bytes as head_bytes};
-use judging::Judgment;
+use judging::Fault;
 
 // Reads any bytes. Of a share, the answer is the head, and `packets`, which must have exactly T letters, then holds its
 // letters. A refused call leaves `packets` as it was. Refusals: 7 to 12, and then 6.
-pub fn read(share: &[u8], packets: &mut [u8]) -> Judgment
+pub fn read(share: &[u8], packets: &mut [u8]) -> Result<Head, Fault>
     ensures { Reads share.now packets.old (outcome_of result) packets.new }
 {
-    match judging::judge(share) {
-        Judgment::Refused(refusal) => Judgment::Refused(refusal),
-        Judgment::Malformed(refusal, at) => Judgment::Malformed(refusal, at),
-        Judgment::Complete(head) => fitting(share, packets, head),
-    }
+    let head = judging::judge(share)?;
+    fitting(share, packets, head)
 }
 
 // Reads the letters of a share, if there is room for exactly them: refusal 6.
-fn fitting(share: &[u8], packets: &mut [u8], head: Head) -> Judgment
+fn fitting(share: &[u8], packets: &mut [u8], head: Head) -> Result<Head, Fault>
     requires { IsShareOf heads head share.now }
     ensures { Reads share.now packets.old (outcome_of result) packets.new }
 {
     if packets.len() != head_bytes::total(head) {
-        return Judgment::Refused(Refusal::Output);
+        return Err(Fault::Refused(Refusal::Output));
     }
     block_letters::reading::copy_letters(kinds::head_size(head.kind), share, packets);
-    Judgment::Complete(head)
+    Ok(head)
 }

@@ -12,7 +12,7 @@ ghost use Rattle.share.specs.Calls.{Written, head_for, preview_head, kind_bytes,
 pub use arriving::{Arriving, Coming, take};
 use group::{Group, Refusal};
 use heads::Head;
-pub use judging::{Judgment, good_bytes, judge};
+pub use judging::{Fault, good_bytes, judge};
 pub use reading::read;
 use records::sizes;
 

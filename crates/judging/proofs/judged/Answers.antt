@@ -3,7 +3,9 @@ use mathlib.Core.Path.{sym, ap, ◌∙◌}
 use native.Mathlib.Omega.{arith}
 use borrow.Author.Tests.{lt-ltb, le-ltb, eq-eqb, ne_eqb}
 use Rattle.kinds.proofs.RowLaws.{size_small}
-use Rattle.judging.specs.declared.Judgment.{Judgment}
+use Rattle.std.specs.Prelude.{Ok, Err}
+use Rattle.judging.specs.declared.Fault.{Fault}
+use Rattle.judging.specs.Judging.{Judgment}
 use Rattle.judging.specs.Steps.Judged.{judgment_at}
 use Rattle.judging.proofs.judged.Goals as goal
 
@@ -15,7 +17,7 @@ pub returns-then-at-count : goal.returns-then-at-count
 returns-then-at-count c =
     let s = c in
     let a = s.args in
-    ap (λ r. Judgment.Malformed r a.at) c.refusal_at.ensures
+    ap (λ r. Err (Fault.Malformed r a.at)) c.refusal_at.ensures
     ∙ sym (simp (lt-ltb _ _ c.if-at-count.true))
     ∙ ap (λ f. judgment_at f a.head a.letters a.at a.count) c.head_size-front.ensures
 

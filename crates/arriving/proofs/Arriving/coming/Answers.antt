@@ -8,22 +8,22 @@ use Rattle.heads.specs.declared.Head.{Head}
 use Rattle.heads.specs.Heads.{heads}
 use Rattle.heads.proofs.HeadLaws.{total_small}
 use Rattle.group.specs.Answers.{Outcome}
-use Rattle.judging.specs.Judging.{outcome_of}
-use Rattle.arriving.specs.Calls.{JudgesState, Announces}
+use Rattle.group.proofs.Refusals.{handed_on}
+use Rattle.arriving.specs.Calls.{Announces}
 use Rattle.arriving.proofs.Led.{batch_led}
-use Rattle.arriving.proofs.Telling.{judged_fine, announces_early, announces_known}
+use Rattle.arriving.proofs.Telling.{announces_early, announces_known}
 use Rattle.arriving.proofs.Arriving.coming.Goals as goal
 
-pub returns-in-Malformed : goal.returns-in-Malformed
-returns-in-Malformed c = Announces.malformed _ _ (subst (λ r. JudgesState c.args.self (outcome_of r)) c.in-Malformed.is c.judge.ensures)
+pub returns-in_err-all_stand : goal.returns-in_err-all_stand
+returns-in_err-all_stand c = rw (handed_on c.from_residual.result _ c.from_residual.ensures.1) c.in_err-all_stand.ensures
 
 pub returns-then-self-head_size : goal.returns-then-self-head_size
 returns-then-self-head_size c =
-    let w = judged_fine _ c.judge.result c.judge.ensures c.in_default.not-Malformed in
+    let w = c.in_ok-all_stand.ensures in
     announces_early _ w.0 w.1 (omega (arith, c.if-self-head_size.true, c.head_size.ensures))
 
 pub head_so_far-head-requires : goal.head_so_far-head-requires
-head_so_far-head-requires c = batch_led _ (judged_fine _ c.judge.result c.judge.ensures c.in_default.not-Malformed).0
+head_so_far-head-requires c = batch_led _ c.in_ok-all_stand.ensures.0
 
 pub size_for-bytes-requires : goal.size_for-bytes-requires
 size_for-bytes-requires c =
@@ -33,7 +33,7 @@ size_for-bytes-requires c =
 pub returns : goal.returns
 returns c =
     let s = c.args.self in
-    let w = judged_fine s c.judge.result c.judge.ensures c.in_default.not-Malformed in
+    let w = c.in_ok-all_stand.ensures in
     let head = c.head_so_far-head.ensures in
     let front = c.head_size-front.ensures ∙ ap (λ (h : Head). head_size h.kind) head in
     subst (λ h. Announces s (Outcome.fine (h, c.size_for-bytes.result))) (sym head)
