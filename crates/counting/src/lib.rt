@@ -10,6 +10,16 @@ ghost use Rattle.counting.specs.Steps.Taken.{Counted, LeftOf, run_terms, others_
 
 use equation::place;
 
+// A run of a buffer: the `n` letters that start at index `start`, of which `whole` aren't zero.
+#[derive(Clone, Copy)]
+pub struct Run<'a> {
+    pub buffer: &'a [u8],
+    pub start: usize,
+    pub n: usize,
+    pub whole: usize,
+    pub ghost counted: { Counted buffer.now start n whole },
+}
+
 // The number of terms of solving whose letter isn't zero, where `part` holds the solution: s sequences of n letters, one after another.
 // `rows` has the shift of the node of rank b at column a at index (b - 1) * 16 + (a - 1).
 pub fn of_solving(part: &[u8], s: usize, n: usize, rows: &[usize]) -> usize
@@ -17,10 +27,8 @@ pub fn of_solving(part: &[u8], s: usize, n: usize, rows: &[usize]) -> usize
     ensures { result ≡ additions s n (shift_in rows.now) (sequence 0 part.now n) }
 {
     let mut count: usize = 0;
-    let mut a = 0;
-    while a < s {
+    for a in 0..s {
         count += of_sequence(part, a * n, n, rows, s, a + 1);
-        a += 1;
     }
     count
 }
@@ -31,94 +39,71 @@ fn of_sequence(part: &[u8], start: usize, n: usize, rows: &[usize], s: usize, a:
     ensures { (result ≡ others_terms part.now start n rows.now s a) × (result ≤ 16 * 2 ^ 32) }
 {
     let whole = worth::count(part, start, n);
-    of_others(part, start, n, whole, rows, s, a)
+    let run = Run {
+        buffer: part,
+        start,
+        n,
+        whole,
+    };
+    run.of_others(rows, s, a)
 }
 
-// How many letters that aren't zero the equations of the ranks 1..s, all but rank `a`, take of the run of `n` letters that starts at index `start`, if it lies in them as
-// sequence `a`. Of the run `whole` letters aren't zero.
-pub fn of_others(
-    buffer: &[u8],
-    start: usize,
-    n: usize,
-    whole: usize,
-    rows: &[usize],
-    s: usize,
-    a: usize,
-) -> usize
-    requires run { (Counted buffer.now start n whole) × (n ≤ 2 ^ 32) }
-    requires ranks { (length rows.now ≡ 256) × (s ≤ 16) × (1 ≤ a) × (a ≤ 16) }
-    ensures { (result ≡ others_terms buffer.now start n rows.now s a) × (result ≤ 16 * 2 ^ 32) }
-{
-    let mut count: usize = 0;
-    let mut b = 0;
-    while b < s {
-        b += 1;
-        count += of_other(buffer, start, n, whole, rows, b, a);
+impl Run<'_> {
+    // How many letters that aren't zero the equations of the ranks 1..s, all but rank `a`, take of the run, if it lies in them as sequence `a`.
+    pub fn of_others(&self, rows: &[usize], s: usize, a: usize) -> usize
+        requires few { self.now.n ≤ 2 ^ 32 }
+        requires ranks { (length rows.now ≡ 256) × (s ≤ 16) × (1 ≤ a) × (a ≤ 16) }
+        ensures { (result ≡ others_terms self.now.buffer.now self.now.start self.now.n rows.now s a) × (result ≤ 16 * 2 ^ 32) }
+    {
+        let mut count: usize = 0;
+        for b in 0..s {
+            count += self.of_other(rows, b + 1, a);
+        }
+        count
     }
-    count
-}
 
-// Those that rank `b` takes: none of its own sequence.
-fn of_other(
-    buffer: &[u8],
-    start: usize,
-    n: usize,
-    whole: usize,
-    rows: &[usize],
-    b: usize,
-    a: usize,
-) -> usize
-    requires run { Counted buffer.now start n whole }
-    requires ranks { (length rows.now ≡ 256) × (1 ≤ b) × (b ≤ 16) × (1 ≤ a) × (a ≤ 16) }
-    ensures { (result ≡ other a b (run_terms buffer.now start n rows.now b a)) × (result ≤ n) }
-{
-    if a == b {
-        return 0;
+    // Those that rank `b` takes: none of its own sequence.
+    fn of_other(&self, rows: &[usize], b: usize, a: usize) -> usize
+        requires { (length rows.now ≡ 256) × (1 ≤ b) × (b ≤ 16) × (1 ≤ a) × (a ≤ 16) }
+        ensures { (result ≡ other a b (run_terms self.now.buffer.now self.now.start self.now.n rows.now b a)) × (result ≤ self.now.n) }
+    {
+        if a == b {
+            return 0;
+        }
+        self.of_run(rows, b, a)
     }
-    of_run(buffer, start, n, whole, rows, b, a)
-}
 
-// How many letters that aren't zero the equations of rank `b` take of such a run, if it lies in them as sequence `a`. Seen from it they lie to the left or to the right: so the
-// last letters fall outside, or the first, as many as the two shifts lie apart.
-pub fn of_run(
-    buffer: &[u8],
-    start: usize,
-    n: usize,
-    whole: usize,
-    rows: &[usize],
-    b: usize,
-    a: usize,
-) -> usize
-    requires run { Counted buffer.now start n whole }
-    requires ranks { (length rows.now ≡ 256) × (1 ≤ b) × (b ≤ 16) × (1 ≤ a) × (a ≤ 16) }
-    ensures { (result ≡ run_terms buffer.now start n rows.now b a) × (result ≤ n) }
-{
-    let own = place::shift_in(rows, b, b);
-    let moved = place::shift_in(rows, b, a);
-    if moved <= own {
-        return but_first(buffer, start, n, whole, own - moved);
+    // How many letters that aren't zero the equations of rank `b` take of the run, if it lies in them as sequence `a`. Seen from it they lie to the left or to the right: so the
+    // last letters fall outside, or the first, as many as the two shifts lie apart.
+    pub fn of_run(&self, rows: &[usize], b: usize, a: usize) -> usize
+        requires { (length rows.now ≡ 256) × (1 ≤ b) × (b ≤ 16) × (1 ≤ a) × (a ≤ 16) }
+        ensures { (result ≡ run_terms self.now.buffer.now self.now.start self.now.n rows.now b a) × (result ≤ self.now.n) }
+    {
+        let own = place::shift_in(rows, b, b);
+        let moved = place::shift_in(rows, b, a);
+        if moved <= own {
+            return self.but_first(own - moved);
+        }
+        self.but_last(moved - own)
     }
-    but_last(buffer, start, n, whole, moved - own)
-}
 
-// Those of the run's letters that aren't zero, without its first `outside` letters.
-fn but_first(buffer: &[u8], start: usize, n: usize, whole: usize, outside: usize) -> usize
-    requires { Counted buffer.now start n whole }
-    ensures { LeftOf buffer.now start n start outside result }
-{
-    if n <= outside {
-        return 0;
+    // Those of the run's letters that aren't zero, without its first `outside` letters.
+    fn but_first(&self, outside: usize) -> usize
+        ensures { LeftOf self.now.buffer.now self.now.start self.now.n self.now.start outside result }
+    {
+        if self.n <= outside {
+            return 0;
+        }
+        self.whole - worth::count(self.buffer, self.start, outside)
     }
-    whole - worth::count(buffer, start, outside)
-}
 
-// Without its last `outside` letters.
-fn but_last(buffer: &[u8], start: usize, n: usize, whole: usize, outside: usize) -> usize
-    requires { Counted buffer.now start n whole }
-    ensures { LeftOf buffer.now start n (start + (n - outside)) outside result }
-{
-    if n <= outside {
-        return 0;
+    // Without its last `outside` letters.
+    fn but_last(&self, outside: usize) -> usize
+        ensures { let r = self.now in LeftOf r.buffer.now r.start r.n (r.start + (r.n - outside)) outside result }
+    {
+        if self.n <= outside {
+            return 0;
+        }
+        self.whole - worth::count(self.buffer, self.start + (self.n - outside), outside)
     }
-    whole - worth::count(buffer, start + (n - outside), outside)
 }

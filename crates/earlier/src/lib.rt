@@ -2,88 +2,62 @@
 #![tactic(auto)]
 
 ghost use Rattle.std.specs.Prelude.{◌≡◌, ◌+◌, ◌*◌, ◌≤◌, ◌<◌, length};
-ghost use Rattle.equation.specs.Rows.{shift_in, Solvable};
-ghost use Rattle.equation.specs.Delays.{Delays};
-ghost use Rattle.tiles.specs.Tile.{Tile};
-ghost use Rattle.spans.specs.Steps.Spans.{RunPlaced, HasBegun};
+ghost use Rattle.equation.specs.Rows.{shift_in};
+ghost use Rattle.tiles.specs.Tile.{Tile as IsTile};
 ghost use Rattle.earlier.specs.Steps.{AddedFrom, TakesOne, TakesAll};
 ghost use Rattle.earlier.specs.Taken.{TakesOut};
 
-// Takes out of each run of a tile, of the ranks after `below` and up to `hi` and the rounds done + 1 .. done + count, what its equations read in rounds up to `done`.
-pub fn take_out(
-    part: &mut [u8],
-    s: usize,
-    n: usize,
-    rows: &[usize],
-    delays: &[usize],
-    below: usize,
-    hi: usize,
-    done: usize,
-    count: usize,
-)
-    requires system { Solvable s n rows.now }
-    requires delays { Delays s rows.now delays.now }
-    requires letters { length part.old ≡ s * n }
-    requires tile { Tile s n (shift_in rows.now) done count below hi }
-    ensures { TakesOut s n (shift_in rows.now) done count below hi part.old hi part.new }
+use equation::System;
+
+// A tile of a system: the rounds done + 1 .. done + count, in which the ranks after `below` and up to `hi` have a letter each.
+#[derive(Clone, Copy)]
+pub struct Tile<'a> {
+    pub system: System<'a>,
+    pub below: usize,
+    pub hi: usize,
+    pub done: usize,
+    pub count: usize,
+    pub ghost tile: { IsTile system.s system.n (shift_in system.rows.now) done count below hi },
+}
+
+// Takes out of each run of a tile what its equations read in rounds before it.
+pub fn take_out(part: &mut [u8], tile: &Tile)
+    requires { length part.old ≡ tile.now.system.s * tile.now.system.n }
+    ensures { let t = tile.now in TakesOut t.system.s t.system.n (shift_in t.system.rows.now) t.done t.count t.below t.hi part.old t.hi part.new }
 {
-    let mut b = below;
-    while b < hi {
-        b += 1;
-        of_all(part, s, n, rows, delays, below, hi, done, count, b);
+    for b in tile.below..tile.hi {
+        of_all(part, tile, b + 1);
     }
 }
 
 // What the run of rank `b` reads of all sequences that have begun.
-fn of_all(
-    part: &mut [u8],
-    s: usize,
-    n: usize,
-    rows: &[usize],
-    delays: &[usize],
-    below: usize,
-    hi: usize,
-    done: usize,
-    count: usize,
-    b: usize,
-)
-    requires system { Solvable s n rows.now }
-    requires delays { Delays s rows.now delays.now }
-    requires letters { length part.old ≡ s * n }
-    requires tile { Tile s n (shift_in rows.now) done count below hi }
-    requires rank { (below < b) × (b ≤ hi) }
-    ensures { TakesAll n (shift_in rows.now) done count b hi part.old part.new }
+fn of_all(part: &mut [u8], tile: &Tile, b: usize)
+    requires letters { length part.old ≡ tile.now.system.s * tile.now.system.n }
+    requires rank { (tile.now.below < b) × (b ≤ tile.now.hi) }
+    ensures { let t = tile.now in TakesAll t.system.n (shift_in t.system.rows.now) t.done t.count b t.hi part.old part.new }
 {
-    let mut a = 0;
-    while a < hi {
-        a += 1;
-        of_one(part, s, n, rows, delays, done, count, b, a);
+    for a in 0..tile.hi {
+        of_one(part, tile, b, a + 1);
     }
 }
 
 // And of sequence `a` alone: one addition, where it reads any letter. Of its own sequence it reads none from before the tile.
-fn of_one(
-    part: &mut [u8],
-    s: usize,
-    n: usize,
-    rows: &[usize],
-    delays: &[usize],
-    done: usize,
-    count: usize,
-    b: usize,
-    a: usize,
-)
-    requires system { Solvable s n rows.now }
-    requires delays { Delays s rows.now delays.now }
-    requires letters { length part.old ≡ s * n }
-    requires run { RunPlaced s n (shift_in rows.now) done count b }
-    requires sequence { HasBegun s (shift_in rows.now) done a }
-    ensures { TakesOne n (shift_in rows.now) done count b a part.old part.new }
+fn of_one(part: &mut [u8], tile: &Tile, b: usize, a: usize)
+    requires letters { length part.old ≡ tile.now.system.s * tile.now.system.n }
+    requires rank { (tile.now.below < b) × (b ≤ tile.now.hi) }
+    requires sequence { (1 ≤ a) × (a ≤ tile.now.hi) }
+    ensures { let t = tile.now in TakesOne t.system.n (shift_in t.system.rows.now) t.done t.count b a part.old part.new }
 {
-    let r = spans::read_before(s, n, rows, delays, done, count, b, a);
+    let system = &tile.system;
+    let r = spans::read_before(system, tile.done, tile.count, b, a);
     if 0 < r.count {
-        let start = (b - 1) * n + (done - delays[b - 1]);
-        add(part, start + r.skip, (a - 1) * n + (r.place - 1), r.count);
+        let start = (b - 1) * system.n + (tile.done - system.delays[b - 1]);
+        add(
+            part,
+            start + r.skip,
+            (a - 1) * system.n + (r.place - 1),
+            r.count,
+        );
     }
 }
 

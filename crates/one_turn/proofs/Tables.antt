@@ -10,11 +10,11 @@ use Rattle.tiles.specs.Even.{Even, lag}
 use Rattle.tiles.proofs.Even.{lag_is, exponents_fall}
 use Rattle.one_turn.specs.Tables.{nth, even_shift, Tables}
 
--- a number found from the rank after its own
-pub nth_before : (xs : List ℕ) (b : ℕ) → get_or xs ((b + 1) - 2) 0 ≡ nth xs b
-nth_before xs b = ap (λ i. get_or xs i 0) back
+-- the rank after index i
+pub nth_next : (xs : List ℕ) (i : ℕ) → nth xs (i + 1) ≡ get_or xs i 0
+nth_next xs i = ap (λ j. get_or xs j 0) back
   where
-    back : (b + 1) - 2 ≡ b - 1
+    back : i + 1 - 1 ≡ i
     back = omega arith
 
 pub exponents_even : (s : ℕ) (exps : List ℕ) → Even s (even_shift exps) (nth exps)

@@ -6,7 +6,7 @@ ghost use Rattle.rebuilding.specs.Calls.{apart_refusal, helpers_refusal, Repaire
 ghost use Rattle.rebuilding.specs.Steps.Checked.{Helpers};
 
 use group::{Group, Refusal};
-use sequences::rows;
+use sequences::rows::{self, Tabled};
 
 // Turns the d pieces in `buffer`, L' letters each, one after another in the helpers' order, into the lost node's d packets, in place.
 // For letters that no honest helpers send, that is the one solution of the d equations. The answer is how many letters that aren't zero it takes to add:
@@ -57,6 +57,7 @@ fn repair_exact(g: Group, lost: usize, helpers: &[usize], buffer: &mut [u8]) -> 
         return Err(Refusal::Input);
     }
     let n = lengths::known::repair(g, lost);
-    let rows = rows::shift_rows(helpers);
+    let table = shifts::all();
+    let rows = rows::of(&Tabled { table: &table }, helpers);
     Ok(solving::solve_counted(buffer, g.d, n, &rows))
 }

@@ -2,6 +2,7 @@
 pub mod CarriedRuns
 pub mod Charted
 pub mod ChosenIds
+pub mod FirstRuns
 pub mod LinearRuns
 pub mod Lists
 pub mod MovedRuns

@@ -1,64 +1,65 @@
-// The chosen nodes' shifts, laid out as the solver wants them, and those of one node.
-ghost use Rattle.shifts.specs.Rule.{t, preview_shift};
-ghost use Rattle.std.specs.Prelude.{◌≤◌};
+// The chosen nodes' shifts, laid out as the solver wants them, and those of one node, under either code's rule.
+ghost use Rattle.shifts.specs.Rule.{ShiftRule, t, preview_shift};
+ghost use Rattle.std.specs.Prelude.{◌≡◌, ◌≤◌};
 ghost use Rattle.shifts.specs.Table.{Table};
 ghost use Rattle.sequences.specs.Steps.Rows.{Known, RowsOf, RowOf};
 
+// A rule of shifts that can be read by node and column.
+pub trait Rule {
+    ghost shift: { ShiftRule };
+
+    fn shift(&self, node: usize, column: usize) -> usize
+        requires { (1 ≤ node) × (node ≤ 16) × (1 ≤ column) × (column ≤ 16) }
+        ensures { result ≡ shift node column };
+}
+
+// The rule of the code that repairs, read in its table.
+#[derive(Clone, Copy)]
+pub struct Tabled<'a> {
+    pub table: &'a [u8],
+    pub ghost right: { Table table.now },
+}
+
+impl Rule for Tabled<'_> {
+    ghost shift = { t };
+
+    fn shift(&self, node: usize, column: usize) -> usize {
+        shifts::shift_in(self.table, node, column)
+    }
+}
+
+// The previews' rule.
+#[derive(Clone, Copy)]
+pub struct Previews;
+
+impl Rule for Previews {
+    ghost shift = { preview_shift };
+
+    fn shift(&self, node: usize, column: usize) -> usize {
+        shifts::preview_shift(node, column)
+    }
+}
+
 // The shift of each node and column: sixteen columns to a row, a row for each id in turn.
-pub fn shift_rows(ids: &[usize]) -> [usize; 256]
+pub fn of<R: Rule>(rule: &R, ids: &[usize]) -> [usize; 256]
     requires { Known ids.now }
-    ensures { RowsOf t ids.now result }
+    ensures { RowsOf R.shift ids.now result }
 {
-    let table = shifts::all();
     let mut rows = [0usize; 256];
-    let count = ids.len() * 16;
-    let mut i = 0;
-    while i < count {
-        rows[i] = shifts::shift_in(&table, ids[i / 16], i % 16 + 1);
-        i += 1;
+    for i in 0..ids.len() * 16 {
+        rows[i] = rule.shift(ids[i / 16], i % 16 + 1);
     }
     rows
 }
 
-// The shifts of one node, one for each column, read in the table.
-pub fn shift_row(table: &[u8], node: usize) -> [usize; 16]
-    requires { (Table table.now) × (1 ≤ node) × (node ≤ 16) }
-    ensures { RowOf t node result }
-{
-    let mut row = [0usize; 16];
-    let mut j = 0;
-    while j < 16 {
-        row[j] = shifts::shift_in(table, node, j + 1);
-        j += 1;
-    }
-    row
-}
-
-// The rows of the chosen nodes under the previews' rule.
-pub fn preview_rows(ids: &[usize]) -> [usize; 256]
-    requires { Known ids.now }
-    ensures { RowsOf preview_shift ids.now result }
-{
-    let mut rows = [0usize; 256];
-    let count = ids.len() * 16;
-    let mut i = 0;
-    while i < count {
-        rows[i] = shifts::preview_shift(ids[i / 16], i % 16 + 1);
-        i += 1;
-    }
-    rows
-}
-
-// The shifts of one node under the previews' rule, one for each column.
-pub fn preview_row(node: usize) -> [usize; 16]
+// The shifts of one node, one for each column.
+pub fn row<R: Rule>(rule: &R, node: usize) -> [usize; 16]
     requires { (1 ≤ node) × (node ≤ 16) }
-    ensures { RowOf preview_shift node result }
+    ensures { RowOf R.shift node result }
 {
     let mut row = [0usize; 16];
-    let mut j = 0;
-    while j < 16 {
-        row[j] = shifts::preview_shift(node, j + 1);
-        j += 1;
+    for j in 0..16 {
+        row[j] = rule.shift(node, j + 1);
     }
     row
 }

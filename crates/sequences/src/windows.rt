@@ -5,7 +5,7 @@ ghost use Rattle.sequences.specs.Steps.Windows.{Cleared, Seen};
 pub fn clear(letters: &mut [u8])
     ensures { Cleared letters.old letters.new }
 {
-    letters::moving::clear(letters, 0, letters.len());
+    letters.fill(0);
 }
 
 // Adds to each letter of `into` the letter of `run` that stands `behind` places further on. Letters pushed outside are dropped.
@@ -15,7 +15,7 @@ fn add_from(into: &mut [u8], run: &[u8], behind: usize)
     if run.len() <= behind {
         return;
     }
-    let count = letters::lesser(into.len(), run.len() - behind);
+    let count = into.len().min(run.len() - behind);
     let end = behind + count;
     adding::add_run(into, 0, &run[behind..end]);
 }
@@ -27,7 +27,7 @@ fn add_at(into: &mut [u8], run: &[u8], ahead: usize)
     if into.len() <= ahead {
         return;
     }
-    let count = letters::lesser(into.len() - ahead, run.len());
+    let count = (into.len() - ahead).min(run.len());
     adding::add_run(into, ahead, &run[0..count]);
 }
 

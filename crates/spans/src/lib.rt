@@ -2,9 +2,10 @@
 #![tactic(auto)]
 
 ghost use Rattle.std.specs.Prelude.{◌+◌, ◌^◌, ◌≤◌};
-ghost use Rattle.equation.specs.Rows.{shift_in, Solvable};
-ghost use Rattle.equation.specs.Delays.{Delays};
+ghost use Rattle.equation.specs.Rows.{shift_in};
 ghost use Rattle.spans.specs.Steps.Spans.{RunPlaced, HasBegun, Reads, ReadsBefore};
+
+use equation::{System, place};
 
 // The letters of a sequence that a run reads: the first of them is read by the letter after `skip` of the run, and stands at place `place`.
 #[derive(Clone, Copy)]
@@ -15,26 +16,15 @@ pub struct Span {
 }
 
 // Where the run of rank `b` reads the letters of sequence `a` that lie in rounds up to `done`.
-pub fn read_before(
-    s: usize,
-    n: usize,
-    rows: &[usize],
-    delays: &[usize],
-    done: usize,
-    count: usize,
-    b: usize,
-    a: usize,
-) -> Span
-    requires system { Solvable s n rows.now }
-    requires delays { Delays s rows.now delays.now }
-    requires run { RunPlaced s n (shift_in rows.now) done count b }
-    requires sequence { HasBegun s (shift_in rows.now) done a }
-    ensures { ReadsBefore n (shift_in rows.now) done count b a result.skip result.place result.count }
+pub fn read_before(system: &System, done: usize, count: usize, b: usize, a: usize) -> Span
+    requires run { RunPlaced system.now.s system.now.n (shift_in system.now.rows.now) done count b }
+    requires sequence { HasBegun system.now.s (shift_in system.now.rows.now) done a }
+    ensures { ReadsBefore system.now.n (shift_in system.now.rows.now) done count b a result.skip result.place result.count }
 {
-    let q = done - delays[b - 1] + 1;
-    let top = letters::lesser(n, done - delays[a - 1]);
-    let own = equation::place::shift_in(rows, b, b);
-    let moved = equation::place::shift_in(rows, b, a);
+    let q = done - system.delays[b - 1] + 1;
+    let top = system.n.min(done - system.delays[a - 1]);
+    let own = place::shift_in(system.rows, b, b);
+    let moved = place::shift_in(system.rows, b, a);
     read(q, own, moved, top, count)
 }
 
@@ -61,7 +51,7 @@ fn read(q: usize, own: usize, moved: usize, top: usize, count: usize) -> Span
     Span {
         skip: 0,
         place,
-        count: letters::lesser(count, top + 1 - place),
+        count: count.min(top + 1 - place),
     }
 }
 
@@ -69,10 +59,10 @@ fn read(q: usize, own: usize, moved: usize, top: usize, count: usize) -> Span
 fn below(outside: usize, top: usize, count: usize) -> Span
     ensures { Reads 1 outside top count result.skip result.place result.count }
 {
-    let skip = letters::lesser(count, outside);
+    let skip = count.min(outside);
     Span {
         skip,
         place: 1,
-        count: letters::lesser(count - skip, top),
+        count: top.min(count - skip),
     }
 }

@@ -10,36 +10,21 @@ use Rattle.counting.proofs.Taken.{by_sequences}
 use Rattle.counting.proofs.of_solving.Goals as goal
 
 pub loop-a-init : goal.loop-a-init
-loop-a-init c = (omega arith, sym (sum_none_terms counts _), omega arith)
+loop-a-init c = (sym (sum_none_terms counts _), omega arith)
 
 pub overflow_mul-a : goal.overflow_mul-a
-overflow_mul-a c =
-    let s = c in omega (arith, sequence_fits s.args.s s.args.n c.loop-a.a (omega arith))
-
-pub overflow_add-a : goal.overflow_add-a
-overflow_add-a c = omega arith
+overflow_mul-a c = omega (arith, sequence_fits c.args.s c.args.n c.loop-a.a (omega arith))
 
 pub of_sequence-count-requires : goal.of_sequence-count-requires
 of_sequence-count-requires c =
-    let s = c in
-    (s.requires.0, omega arith, omega (arith, sequence_fits s.args.s s.args.n c.loop-a.a (omega arith)), omega arith, omega arith)
-
-pub overflow_add-count : goal.overflow_add-count
-overflow_add-count c = omega arith
-
-pub overflow_add-a-in-loop-a : goal.overflow_add-a-in-loop-a
-overflow_add-a-in-loop-a c = omega arith
-
-pub loop-a-smaller : goal.loop-a-smaller
-loop-a-smaller c = omega arith
+    (c.requires.0, omega arith, omega (arith, sequence_fits c.args.s c.args.n c.loop-a.a (omega arith)), omega arith, omega arith)
 
 pub loop-a-preserved : goal.loop-a-preserved
 loop-a-preserved c =
     let l = c.loop-a in
     let a = c.args in
     let here : l.a + 1 - 1 ≡ l.a = omega arith in (
-      omega arith,
-      ap₂ ◌+◌ l.invariant.1 (c.of_sequence-count.ensures.0 ∙ sym (ap (λ m. others_terms a.part.now (m * a.n) a.n a.rows.now a.s (l.a + 1)) here))
+      ap₂ ◌+◌ l.invariant.0 (c.of_sequence-count.ensures.0 ∙ sym (ap (λ m. others_terms a.part.now (m * a.n) a.n a.rows.now a.s (l.a + 1)) here))
           ∙ sym (sum_more counts l.a _),
       omega arith,
     )
@@ -49,6 +34,6 @@ returns c =
     let l = c.loop-a in
     let a = c.args in
     let done : l.a ≡ a.s = omega arith in
-    l.invariant.1
+    l.invariant.0
     ∙ ap (λ m. sum counts m (λ b. others_terms a.part.now ((b - 1) * a.n) a.n a.rows.now a.s b)) done
     ∙ by_sequences a.s a.n a.rows.now a.part.now

@@ -6,7 +6,4 @@ use Rattle.counting.specs.Steps.Taken.{others_terms}
 use Rattle.counting.proofs.of_solving.Given as goal
 
 abbrev pub invariant-loop-a : goal.invariant-loop-a
-invariant-loop-a l = (l.a ≤ l.s) × (l.count ≡ sum counts l.a (λ b. others_terms l.part ((b - 1) * l.n) l.n l.rows l.s b)) × (l.count ≤ l.a * (16 * 2 ^ 32))
-
-abbrev pub decreases-loop-a : goal.decreases-loop-a
-decreases-loop-a l = l.s - l.a
+invariant-loop-a l = (l.count ≡ sum counts l.a (λ b. others_terms l.part ((b - 1) * l.n) l.n l.rows l.s b)) × (l.count ≤ l.a * (16 * 2 ^ 32))

@@ -2,7 +2,7 @@
 use native.Mathlib.Omega.{arith}
 use Prim.Native.Nat.{◌+◌}
 use Rattle.solving.proofs.Tiles.{tables_of}
-use Rattle.rounds.proofs.ByRank.{nth_next}
+use Rattle.one_turn.proofs.Tables.{nth_next}
 use Rattle.solving.proofs.solve.Goals as goal
 
 pub delays-delays-requires : goal.delays-delays-requires

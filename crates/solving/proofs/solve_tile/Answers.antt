@@ -3,8 +3,7 @@ use native.Mathlib.Omega.{arith}
 use mathlib.Core.Path.{◌∙◌}
 use Prim.Native.Nat.{◌+◌}
 use Rattle.solving.proofs.Tiles.{runs_apart, tile_done}
-use Rattle.one_turn.proofs.Tables.{tables_fewer}
-use Rattle.rounds.proofs.ByRank.{nth_next}
+use Rattle.one_turn.proofs.Tables.{nth_next, tables_fewer}
 use Rattle.solving.proofs.solve_tile.Goals as goal
 
 pub starts-starts-requires : goal.starts-starts-requires

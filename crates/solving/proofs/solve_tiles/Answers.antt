@@ -7,7 +7,8 @@ use Rattle.system.specs.System.{sequence}
 use Rattle.equation.specs.Rows.{shift_in}
 use Rattle.tiles.specs.Tile.{Through}
 use Rattle.tiles.proofs.Tile.{through_start, through_end}
-use Rattle.rounds.proofs.ByRank.{nth_next, still_below}
+use Rattle.one_turn.proofs.Tables.{nth_next}
+use Rattle.rounds.proofs.ByRank.{still_below}
 use Rattle.solving.proofs.Tiles.{tile_here, waits_small}
 use Rattle.solving.proofs.solve_tiles.Goals as goal
 

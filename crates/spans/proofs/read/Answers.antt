@@ -1,4 +1,4 @@
--- `read::read` meets its contract: its signed number is the place that the first letter reads, where that is from 1 on, and below 1 the letters up to place 1 are skipped.
+-- `read` meets its contract: its signed number is the place that the first letter reads, where that is from 1 on, and below 1 the letters up to place 1 are skipped.
 use mathlib.Core.Path.{sym, ap, subst}
 use Prim.Native.Nat.{◌+◌}
 use native.Mathlib.Omega.{arith}
@@ -65,5 +65,5 @@ returns c =
     let from = from_one a.q a.own a.moved pre.0 pre.1 pre.2 c.if-at-lt1.false in
     let place = ap nat_abs from.1 in
     let to = up_to a.q a.own a.moved pre.0 pre.1 pre.2 c.if-at-lt1.false a.top pre.3 c.if-at-top.false in
-    rw c.lesser.ensures
+    rw c.min.ensures
     (reads_from (a.q + a.own) a.moved a.top a.count _ (omega arith) (omega arith) (omega arith))

@@ -10,5 +10,5 @@ returns-then-into-ahead c = seen_nothing _ 0 _ _ (λ q h. inl (omega arith))
 pub returns : goal.returns
 returns c =
     let s = c in
-    seen_at_lem s.args.run.now s.args.into.now c.add_run.new.into s.args.ahead _ (omega arith) c.lesser-count.ensures
+    seen_at_lem s.args.run.now s.args.into.now c.add_run.new.into s.args.ahead _ (omega arith) c.min-count.ensures
     c.add_run.ensures.letters

@@ -11,5 +11,5 @@ returns-then-run-behind c = seen_nothing _ _ 0 _ (λ q h. inr (omega arith))
 pub returns : goal.returns
 returns c =
     let s = c in
-    seen_window s.args.run.now s.args.into.now c.add_run.new.into s.args.behind _ _ (omega arith) c.lesser-count.ensures refl
+    seen_window s.args.run.now s.args.into.now c.add_run.new.into s.args.behind _ _ (omega arith) c.min-count.ensures refl
     c.add_run.ensures.letters

@@ -1,23 +1,23 @@
--- `windows::clear` meets its contract: every letter is cleared, and past the end there are none.
-use mathlib.Core.List.{List}
+-- `windows::clear` meets its contract: every letter is zero, and past the end there are none.
+use mathlib.Core.Path.{ap, ◌∙◌}
 use mathlib.Core.Logic.{⊎_elim}
-use Prim.Native.Nat.{ℕ}
 use native.Mathlib.Omega.{arith}
-use lib.ListN.{length, get_or-eq_default}
-use Rattle.letters.specs.Laid.{Laid}
+use lib.ListN.{length, get_or, get_or-eq_default}
+use Rattle.std.proofs.lemmas.List.{get_or-replicate}
 use Rattle.letters.proofs.Cases.{le_or_lt}
-use Rattle.sequences.specs.Steps.Windows.{Cleared}
 use Rattle.sequences.proofs.windows.clear.Goals as goal
 
-all_cleared : (xs ys : List ℕ) → Laid xs ys 0 (length xs) (λ p. 0) → Cleared xs ys
-all_cleared xs ys w =
+pub returns : goal.returns
+returns c =
+    let ys = c.fill.new.self in
     record {
-      same_length = w.same_length;
+      same_length = c.fill.ensures.len;
       zeros =
           record {
-            zero = λ q. ⊎_elim (λ past. get_or-eq_default ys 0 past) (λ h. w.laid q (omega arith) (omega (arith, w.same_length))) (le_or_lt (length ys) q);
+            zero =
+                λ q.
+                ⊎_elim (λ past. get_or-eq_default ys 0 past)
+                (λ h. ap (λ zs. get_or zs q 0) (c.fill.ensures.after (λ y e. e)) ∙ get_or-replicate _ q 0 0 (omega (arith, c.fill.ensures.len)))
+                (le_or_lt (length ys) q);
           };
     }
-
-pub returns : goal.returns
-returns c = all_cleared _ _ c.clear.ensures
