@@ -8,6 +8,7 @@ use odd_problems::{Matter, Problem};
 use std::rt::{Env, Files};
 
 // The ids of the nodes that have a file, and their letters in the same order.
+#[derive(Clone, Copy)]
 pub struct Gathered<'a> {
     pub ids: &'a [usize],
     pub letters: &'a [u8],
