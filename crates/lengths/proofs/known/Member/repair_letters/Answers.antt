@@ -1,6 +1,6 @@
 -- `lengths::repair` meets its contract.
 use Rattle.lengths.specs.Lengths.{repair_letters}
-use Rattle.lengths.proofs.known.repair.Goals as goal
+use Rattle.lengths.proofs.known.Member.repair_letters.Goals as goal
 
 pub returns : goal.returns
 unfolding repair_letters

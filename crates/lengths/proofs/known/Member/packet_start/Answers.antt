@@ -5,7 +5,7 @@ use Prim.Native.Nat.{◌-◌, ◌*◌}
 use native.Mathlib.Nat.{mul-le-mul}
 use Rattle.lengths.proofs.Sizes.{packet_start_lem}
 use Rattle.group.specs.Ranges.{most_packets}
-use Rattle.lengths.proofs.known.packet_start.Goals as goal
+use Rattle.lengths.proofs.known.Member.packet_start.Goals as goal
 
 pub overflow_mul-result : goal.overflow_mul-result
 overflow_mul-result c = omega (arith, mul-le-mul {n₁ = c.args.column - 1} {n₂ = most_packets} (omega arith) c.widened.ensures.1)
