@@ -29,7 +29,7 @@ fn of_column(g: Group, ids: &[usize], rows: &[usize], u: usize, file: &[u8]) -> 
     requires { (Recovery g ids.now rows.now file.now) × (1 ≤ u) × (u ≤ g.d) }
     ensures { (result ≡ column_terms g ids.now file.now u) × (result ≤ 16 * (entry_most + entry_most)) }
 {
-    let s = letters::lesser(u, g.k);
+    let s = u.min(g.k);
     let mut count: usize = 0;
     for v in 0..s {
         count += of_entry(g, ids, rows, u, s, v + 1, file);

@@ -39,7 +39,7 @@ fn recover_column(g: Group, ids: &[usize], rows: &[usize], u: usize, buffer: &mu
     requires { (Collected g ids.now buffer.old) × (RowsOf t ids.now rows.now) × (1 ≤ u) × (u ≤ g.d) }
     ensures { Column g ids.now u buffer.old buffer.new }
 {
-    let s = letters::lesser(u, g.k);
+    let s = u.min(g.k);
     let start = entries::sequences_before(g.k, u) * g.l;
     let end = start + s * g.l;
     columns::pull_column(g, ids, rows, u, buffer);
