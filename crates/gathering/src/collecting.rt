@@ -26,7 +26,7 @@ fn collect_column(nodes: &Nodes, without: usize, u: usize, file: &mut [u8])
     ensures { Laid file.old file.new (before nodes.now.g.k u * nodes.now.g.l) (before nodes.now.g.k (u + 1) * nodes.now.g.l) (λ q. get_or (collected_without nodes.now.g nodes.now.ids.now nodes.now.packets.now without) q 0) }
 {
     let g = nodes.g;
-    let sequences = letters::lesser(u, g.k);
+    let sequences = u.min(g.k);
     let mut at = entries::free_start(g, 1, u);
     for v in 0..sequences {
         collect_piece(nodes, without, v + 1, u, at, file);

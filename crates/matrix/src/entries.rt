@@ -37,7 +37,7 @@ pub fn next_start(g: Group, row: usize, column: usize, start: usize) -> usize
     if row < column {
         return start + g.l;
     }
-    start + letters::lesser(row, g.k) * g.l
+    start + row.min(g.k) * g.l
 }
 
 // Where the entries of a column start, row by row from the first to the d-th.

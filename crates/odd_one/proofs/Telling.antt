@@ -4,9 +4,9 @@ use mathlib.Core.Path.{◌≡◌, refl, sym, ap, subst, ◌∙◌, fun_ext}
 use mathlib.Core.List.{List}
 use mathlib.Core.Logic.{⊎_elim}
 use Prim.Native.Nat.{ℕ, zero, suc, ◌≤◌, ◌<◌}
-use lib.ListN.{length}
+use lib.ListN.{length, replicate, get_or}
+use Rattle.std.proofs.lemmas.List.{get_or-replicate}
 use borrow.Author.Tests.{eq-eqb, ne_eqb}
-use Rattle.letters.specs.Laid.{Laid}
 use Rattle.letters.proofs.Cases.{eq_or_ne}
 use Rattle.group.specs.declared.Group.{Group}
 use Rattle.group.specs.declared.Refusal.{Refusal}
@@ -52,10 +52,10 @@ named_rank g ids handed file found s =
     one w c p e (Searched.several _ _ several) = absurd (omega arith)
 
 -- a buffer that was cleared is a file of zeros
-pub cleared : (g : Group) (before after : List ℕ) (end : ℕ) → length before ≡ file_letters g → end ≡ length before → Laid before after 0 end (λ p. 0) → after ≡ zero_file g
+pub cleared : (g : Group) (before after : List ℕ) → length before ≡ file_letters g → length after ≡ length before → after ≡ replicate (length before) 0 → after ≡ zero_file g
 unfolding zero_file
-cleared g before after end long e laid =
-    is_run 0 (file_letters g) (λ p. 0) after (laid.same_length ∙ long) (λ q h. laid.laid q (omega arith) (omega arith))
+cleared g before after long same zeros =
+    is_run 0 (file_letters g) (λ p. 0) after (same ∙ long) (λ q h. ap (λ xs. get_or xs q 0) zeros ∙ get_or-replicate (length before) q 0 0 (omega arith))
 
 module _ (g : Group) (ids handed : List ℕ) where
   -- two standings that are the same for every node

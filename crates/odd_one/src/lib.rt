@@ -40,7 +40,7 @@ fn find_present(g: Group, ids: &[usize], packets: &[u8], file: &mut [u8]) -> Rep
     };
     let found = search::search(&nodes, file);
     if found == Found::Several {
-        letters::moving::clear(file, 0, file.len());
+        file.fill(0);
     }
     reporting::told(ids, found)
 }

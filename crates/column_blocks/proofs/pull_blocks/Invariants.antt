@@ -4,4 +4,4 @@ use Rattle.column_blocks.proofs.Blocks.{ColumnsSeen}
 use Rattle.column_blocks.proofs.pull_blocks.Given as goal
 
 abbrev pub invariant-loop-before : goal.invariant-loop-before
-invariant-loop-before l = ColumnsSeen l.g l.ids l.v l.w l.wide (l.before - l.v) l.starts
+invariant-loop-before l = ColumnsSeen l.senders.g l.senders.ids.now l.v l.w l.wide (l.before - l.v) l.starts

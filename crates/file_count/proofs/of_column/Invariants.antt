@@ -6,4 +6,4 @@ use Rattle.file_count.specs.Steps.Terms.{solving_terms, taking_terms, entry_most
 use Rattle.file_count.proofs.of_column.Given as goal
 
 abbrev pub invariant-loop-v : goal.invariant-loop-v
-invariant-loop-v l = (l.count ≡ sum counts l.v (λ y. solving_terms l.g l.ids l.file l.u y + taking_terms l.g l.ids l.file l.u y)) × (l.count ≤ l.v * (entry_most + entry_most))
+invariant-loop-v l = (l.count ≡ sum counts l.v (λ y. solving_terms l.senders.g l.senders.ids.now l.file l.u y + taking_terms l.senders.g l.senders.ids.now l.file l.u y)) × (l.count ≤ l.v * (entry_most + entry_most))

@@ -15,7 +15,7 @@ sum_one 𝓐 f = none_plus 𝓐 (f 1)
 pub loop-u-init : goal.loop-u-init
 loop-u-init c =
     let s = c in
-    (sym (sum_one counts (λ x. column_terms s.args.g s.args.ids.now s.args.file.now x) ∙ first_column s.args.g s.args.ids.now s.args.file.now (omega arith)), omega arith)
+    (sym (sum_one counts (λ x. column_terms s.args.senders.now.g s.args.senders.now.ids.now s.args.file.now x) ∙ first_column s.args.senders.now.g s.args.senders.now.ids.now s.args.file.now (omega arith)), omega arith)
 
 pub of_column-count-requires : goal.of_column-count-requires
 of_column-count-requires c = (c.requires, omega arith, omega arith)
@@ -32,5 +32,5 @@ pub returns : goal.returns
 returns c =
     let l = c.loop-u in
     let a = c.args in
-    let done : l.u ≡ a.g.d = omega arith in
-    l.invariant.0 ∙ ap (λ m. sum counts m (λ x. column_terms a.g a.ids.now a.file.now x)) done ∙ file_count a.g a.ids.now a.file.now (omega arith)
+    let done : l.u ≡ a.senders.now.g.d = omega arith in
+    l.invariant.0 ∙ ap (λ m. sum counts m (λ x. column_terms a.senders.now.g a.senders.now.ids.now a.file.now x)) done ∙ file_count a.senders.now.g a.senders.now.ids.now a.file.now (omega arith)

@@ -6,4 +6,4 @@ use Rattle.file_count.specs.Steps.Terms.{column_terms, entry_most}
 use Rattle.file_count.proofs.of_file.Given as goal
 
 abbrev pub invariant-loop-u : goal.invariant-loop-u
-invariant-loop-u l = (l.count ≡ sum counts l.u (λ x. column_terms l.g l.ids l.file x)) × (l.count ≤ l.u * (16 * (entry_most + entry_most)))
+invariant-loop-u l = (l.count ≡ sum counts l.u (λ x. column_terms l.senders.g l.senders.ids.now l.file x)) × (l.count ≤ l.u * (16 * (entry_most + entry_most)))

@@ -6,4 +6,4 @@ use Rattle.matrix.specs.Counts.{taking_out}
 use Rattle.file_count.proofs.of_takings.Given as goal
 
 abbrev pub invariant-loop-w : goal.invariant-loop-w
-invariant-loop-w l = (l.count ≡ sum counts l.w (λ y. taking_out l.fn.g l.ids l.run.buffer.now l.u l.v y)) × (l.count ≤ l.w * 2 ^ 32)
+invariant-loop-w l = (l.count ≡ sum counts l.w (λ y. taking_out l.senders.g l.senders.ids.now l.run.buffer.now l.u l.v y)) × (l.count ≤ l.w * 2 ^ 32)

@@ -12,7 +12,7 @@ pub recover_column-requires : goal.recover_column-requires
 recover_column-requires c =
     let s = c in
     let l = c.loop-u in
-    (record { chosen = s.requires.0.chosen; long = l.invariant.same_length ∙ s.requires.0.long }, s.requires.1, omega arith, omega arith)
+    (l.invariant.same_length ∙ s.requires, omega arith, omega arith)
 
 pub loop-u-preserved : goal.loop-u-preserved
 loop-u-preserved c =
@@ -27,4 +27,4 @@ returns c =
     let l = c.loop-u in
     let s = c in
     let done : l.u ≡ 0 = omega arith in
-    subst (λ m. Stage s.args.g s.args.ids.now m s.args.buffer.now l.buffer) done l.invariant
+    subst (λ m. Stage s.args.senders.now.g s.args.senders.now.ids.now m s.args.buffer.now l.buffer) done l.invariant

@@ -17,12 +17,12 @@ loop-v-init c = (c.free_start-at.ensures.0, nothing_laid _ _ _ _ (omega (arith, 
 pub collect_piece-requires : goal.collect_piece-requires
 collect_piece-requires c =
     let l = c.loop-v in
-    (l.invariant.1.same_length ∙ c.requires.0, column_entry c.args.nodes.now.g c.args.u _ (l.v + 1) c.args.nodes.now.present.chosen.group c.requires.1 c.requires.2 c.lesser-sequences.ensures (omega arith) (omega arith), l.invariant.0)
+    (l.invariant.1.same_length ∙ c.requires.0, column_entry c.args.nodes.now.g c.args.u _ (l.v + 1) c.args.nodes.now.present.chosen.group c.requires.1 c.requires.2 c.min-sequences.ensures (omega arith) (omega arith), l.invariant.0)
 
 pub overflow_add-at : goal.overflow_add-at
 overflow_add-at c =
     let l = c.loop-v in
-    let f = column_entry c.args.nodes.now.g c.args.u _ (l.v + 1) c.args.nodes.now.present.chosen.group c.requires.1 c.requires.2 c.lesser-sequences.ensures (omega arith) (omega arith) in
+    let f = column_entry c.args.nodes.now.g c.args.u _ (l.v + 1) c.args.nodes.now.present.chosen.group c.requires.1 c.requires.2 c.min-sequences.ensures (omega arith) (omega arith) in
     omega (arith, file_at_most c.args.nodes.now.g c.args.nodes.now.present.chosen.group, l.invariant.0, c.requires.0, entry_fits c.args.nodes.now.g c.args.nodes.now.present.chosen.group (l.v + 1) c.args.u c.requires.1 c.requires.2 (omega arith) (omega (arith, f.within, f.upper)))
 
 pub loop-v-preserved : goal.loop-v-preserved
@@ -38,4 +38,4 @@ shape_of-file c = c.loop-v.invariant.1.same_length
 pub returns : goal.returns
 returns c =
     let l = c.loop-v in
-    laid_until _ _ _ _ _ _ (sym (l.invariant.0 ∙ column_last c.args.nodes.now.g l.v c.args.u c.args.nodes.now.present.chosen.group.k_low c.requires.1 (omega (arith, c.lesser-sequences.ensures)))) l.invariant.1
+    laid_until _ _ _ _ _ _ (sym (l.invariant.0 ∙ column_last c.args.nodes.now.g l.v c.args.u c.args.nodes.now.present.chosen.group.k_low c.requires.1 (omega (arith, c.min-sequences.ensures)))) l.invariant.1
