@@ -10,6 +10,7 @@ pub fn read_full(input: &mut impl Read, bytes: &mut [u8]) -> Result<usize>
     ensures { ReadsAtMost result bytes.new }
 {
     let mut done = 0;
+    // No count: each turn goes on by as many bytes as it read.
     while done < bytes.len() {
         let more = input.read(&mut bytes[done..])?;
         if more == 0 {

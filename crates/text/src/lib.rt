@@ -1,4 +1,4 @@
-// Text put into a line, word by word.
+// Text put into a line, word by word. A line and an index in it are two parameters, since `Put` in specs/ says what the whole line then holds.
 #![tactic(auto)]
 
 ghost use Rattle.std.specs.Prelude.{◌+◌, ◌≤◌, length};
