@@ -82,41 +82,50 @@ fn later_byte(head: Head, nth: usize) -> u8
     numbers::byte_of(head.batch as usize, nth - wide)
 }
 
-// The byte at an offset of the head.
-pub fn head_byte(head: Head, offset: usize) -> u8
-    requires { (HeadFits head) × (offset < head_size head.kind) }
-    ensures { result ≡ get_or (head_record head) offset 0 }
-{
-    let g = head.group;
-    match offset {
-        0 => numbers::low(head.kind),
-        1 => numbers::low(g.n),
-        2 => numbers::low(g.k),
-        3 => numbers::low(g.d),
-        4 => numbers::low(head.node),
-        _ => later_byte(head, offset - LENGTH),
-    }
+// A head whose numbers have room in its bytes.
+#[derive(Clone, Copy)]
+pub struct Fitting {
+    pub head: Head,
+    pub ghost fits: { HeadFits head },
 }
 
-// The bytes of a head, of which there are so many, at the front.
-fn put_bytes(head: Head, size: usize, share: &mut [u8])
-    requires { (HeadFits head) × (size ≡ head_size head.kind) × (size ≤ length share.old) }
-    ensures { Laid share.old share.new 0 size (λ p. get_or (head_record head) p 0) }
-{
-    for at in 0..size {
-        share[at] = head_byte(head, at);
+impl Fitting {
+    // The byte at an offset of the head.
+    pub fn byte(self, offset: usize) -> u8
+        requires { offset < head_size self.head.kind }
+        ensures { result ≡ get_or (head_record self.head) offset 0 }
+    {
+        let g = self.head.group;
+        match offset {
+            0 => numbers::low(self.head.kind),
+            1 => numbers::low(g.n),
+            2 => numbers::low(g.k),
+            3 => numbers::low(g.d),
+            4 => numbers::low(self.head.node),
+            _ => later_byte(self.head, offset - LENGTH),
+        }
     }
-}
 
-// The head, at the front. (The two sizes that there are have a branch each, so that the compiler knows how many bytes it lays, and needs no loop.)
-pub fn put_head(head: Head, share: &mut [u8])
-    requires { (HeadFits head) × (head_size head.kind ≤ length share.old) }
-    ensures { Laid share.old share.new 0 (head_size head.kind) (λ p. get_or (head_record head) p 0) }
-{
-    let size = kinds::head_size(head.kind);
-    if size == 13 {
-        put_bytes(head, 13, share);
-    } else {
-        put_bytes(head, size, share);
+    // The bytes of the head, of which there are so many, at the front.
+    fn put_bytes(self, size: usize, share: &mut [u8])
+        requires { (size ≡ head_size self.head.kind) × (size ≤ length share.old) }
+        ensures { Laid share.old share.new 0 size (λ p. get_or (head_record self.head) p 0) }
+    {
+        for at in 0..size {
+            share[at] = self.byte(at);
+        }
+    }
+
+    // The head, at the front. (The two sizes that there are have a branch each, so that the compiler knows how many bytes it lays, and needs no loop.)
+    pub fn put(self, share: &mut [u8])
+        requires { head_size self.head.kind ≤ length share.old }
+        ensures { Laid share.old share.new 0 (head_size self.head.kind) (λ p. get_or (head_record self.head) p 0) }
+    {
+        let size = kinds::head_size(self.head.kind);
+        if size == 13 {
+            self.put_bytes(13, share);
+        } else {
+            self.put_bytes(size, share);
+        }
     }
 }

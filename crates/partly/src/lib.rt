@@ -1,12 +1,12 @@
 // A head of which the first bytes are in, and no more: its numbers are those of these bytes with zeros after them.
 #![tactic(auto)]
 
-ghost use Rattle.std.specs.Prelude.{◌≡◌, true, ◌++◌, ◌↔◌, ◌≤◌, ◌<◌, get_or, take};
+ghost use Rattle.std.specs.Prelude.{ℕ, ◌≡◌, true, ◌++◌, ◌↔◌, ◌≤◌, ◌<◌, get_or, take};
 ghost use Rattle.kinds.specs.Kinds.{head_size};
 ghost use Rattle.heads.specs.Heads.{head_record};
 ghost use Rattle.heads.specs.Steps.Partly.{HeadFits, Blank, PartlyIn, partly_at, head_after};
 
-use heads::{Head, bytes as head_bytes};
+use heads::{Head, bytes as head_bytes, bytes::Fitting};
 use records::numbers;
 
 // The most bytes that a head has: where L has four.
@@ -36,14 +36,27 @@ fn fits(head: Head) -> bool
 }
 
 // The byte at an offset is as it is where so many bytes are in.
-fn byte_fits(head: Head, at: usize, offset: usize) -> bool
-    requires { (HeadFits head) × (offset < head_size head.kind) }
-    ensures { result ≡ partly_at head at offset }
+fn byte_fits(of: Fitting, at: usize, offset: usize) -> bool
+    requires { offset < head_size of.head.kind }
+    ensures { result ≡ partly_at of.head at offset }
 {
     if offset < at {
-        return head_bytes::head_stands(head, offset);
+        return head_bytes::head_stands(of.head, offset);
     }
-    head_bytes::head_byte(head, offset) == 0
+    of.byte(offset) == 0
+}
+
+// Every byte of a head is as it is where so many bytes are in.
+fn all_fit(of: Fitting, at: usize) -> bool
+    ensures { (result ≡ true) ↔ ((p : ℕ) → p < head_size of.head.kind → partly_at of.head at p ≡ true) }
+{
+    let size = kinds::head_size(of.head.kind);
+    for offset in 0..size {
+        if !byte_fits(of, at, offset) {
+            return false;
+        }
+    }
+    true
 }
 
 // No number is in.
@@ -69,22 +82,16 @@ pub fn partly_in(head: Head, at: usize) -> bool
     if !fits(head) {
         return false;
     }
-    let size = kinds::head_size(head.kind);
-    for offset in 0..size {
-        if !byte_fits(head, at, offset) {
-            return false;
-        }
-    }
-    true
+    all_fit(Fitting { head }, at)
 }
 
 // The byte at an offset once these bytes have come after the first `at`; past them it counts as 0.
-fn byte_after(head: Head, at: usize, bytes: &[u8], offset: usize) -> u8
-    requires { (HeadFits head) × (at ≤ head_size head.kind) }
-    ensures { result ≡ get_or (take at (head_record head) ++ bytes.now) offset 0 }
+fn byte_after(of: Fitting, at: usize, bytes: &[u8], offset: usize) -> u8
+    requires { at ≤ head_size of.head.kind }
+    ensures { result ≡ get_or (take at (head_record of.head) ++ bytes.now) offset 0 }
 {
     if offset < at {
-        return head_bytes::head_byte(head, offset);
+        return of.byte(offset);
     }
     let i = offset - at;
     if i < bytes.len() {
@@ -94,14 +101,14 @@ fn byte_after(head: Head, at: usize, bytes: &[u8], offset: usize) -> u8
 }
 
 // The head once these bytes have come after its first `at`, of which there are some.
-pub fn head_after(head: Head, at: usize, bytes: &[u8]) -> Head
-    requires { (HeadFits head) × (1 ≤ at) × (at ≤ head_size head.kind) }
-    ensures { result ≡ head_after head at bytes.now }
+pub fn head_after(of: Fitting, at: usize, bytes: &[u8]) -> Head
+    requires { (1 ≤ at) × (at ≤ head_size of.head.kind) }
+    ensures { result ≡ head_after of.head at bytes.now }
 {
-    let size = kinds::head_size(head.kind);
+    let size = kinds::head_size(of.head.kind);
     let mut first = [0u8; MOST_BYTES];
     for next in 0..size {
-        first[next] = byte_after(head, at, bytes, next);
+        first[next] = byte_after(of, at, bytes, next);
     }
     head_bytes::head_in(&first)
 }

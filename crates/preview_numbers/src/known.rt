@@ -12,10 +12,19 @@ pub fn file(g: Group) -> usize
     g.k * g.l
 }
 
-// The letters of a node's packet, L + t(i,k).
-pub fn packet(g: Group, node: usize) -> usize
-    requires { PreviewNode g node }
-    ensures { result ≡ preview_packet g node }
-{
-    g.l + shifts::preview_shift(node, g.k)
+// A node of such a group.
+#[derive(Clone, Copy)]
+pub struct Member {
+    pub g: Group,
+    pub node: usize,
+    pub ghost of: { PreviewNode g node },
+}
+
+impl Member {
+    // The letters of the node's packet, L + t(i,k).
+    pub fn packet(self) -> usize
+        ensures { result ≡ preview_packet self.g self.node }
+    {
+        self.g.l + shifts::preview_shift(self.node, self.g.k)
+    }
 }

@@ -8,6 +8,7 @@ ghost use Rattle.group.specs.Answers.{Answers};
 ghost use Rattle.preview_numbers.specs.Previews.{preview_group_refusal, preview_node_refusal, preview_file, preview_packet};
 
 use group::{Group, Refusal};
+use known::Member;
 
 // The letters of a file of previews, k*L. Refusals: 1, 2.
 pub fn file_letters(g: Group) -> Result<usize, Refusal>
@@ -22,5 +23,5 @@ pub fn packet_letters(g: Group, node: usize) -> Result<usize, Refusal>
     ensures { Answers result (preview_node_refusal g node) (preview_packet g node) }
 {
     checks::node(g, node)?;
-    Ok(known::packet(g, node))
+    Ok(Member { g, node }.packet())
 }

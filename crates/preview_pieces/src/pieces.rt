@@ -5,6 +5,7 @@ ghost use Rattle.preview_numbers.specs.Previews.{PreviewNode};
 ghost use Rattle.preview_pieces.specs.Calls.{PreviewHanded, PreviewStarting, PreviewPlaced, preview_entry_refusal};
 
 use group::{Group, Refusal};
+use preview_numbers::known::Member;
 
 // What `node` sends as `rank`: that part of its packet, letters t(i,v)+1 .. t(i,v)+L, uncopied.
 // The empty part means refused (L >= 1); `piece_start` tells by which number.
@@ -21,28 +22,27 @@ pub fn piece_start(g: Group, node: usize, rank: usize, held: usize) -> Result<us
     ensures { PreviewStarting g node rank held result }
 {
     preview_numbers::checks::node(g, node)?;
-    start_of_node(g, node, rank, held)
+    start_of_node(Member { g, node }, rank, held)
 }
 
 // The same for a node of the group.
-fn start_of_node(g: Group, node: usize, rank: usize, held: usize) -> Result<usize, Refusal>
-    requires { PreviewNode g node }
-    ensures { PreviewStarting g node rank held result }
+fn start_of_node(of: Member, rank: usize, held: usize) -> Result<usize, Refusal>
+    ensures { PreviewStarting of.g of.node rank held result }
 {
-    group_checks::one_of(rank, g.k)?;
-    start_of_rank(g, node, rank, held)
+    group_checks::one_of(rank, of.g.k)?;
+    start_of_rank(of, rank, held)
 }
 
 // The same for a rank that fits.
-fn start_of_rank(g: Group, node: usize, rank: usize, held: usize) -> Result<usize, Refusal>
-    requires { (PreviewNode g node) × (1 ≤ rank) × (rank ≤ g.k) }
-    ensures { PreviewStarting g node rank held result }
+fn start_of_rank(of: Member, rank: usize, held: usize) -> Result<usize, Refusal>
+    requires { (1 ≤ rank) × (rank ≤ of.g.k) }
+    ensures { PreviewStarting of.g of.node rank held result }
 {
-    let wanted = preview_numbers::known::packet(g, node);
+    let wanted = of.packet();
     if held != wanted {
         return Err(Refusal::Input);
     }
-    Ok(shifts::preview_shift(node, rank))
+    Ok(shifts::preview_shift(of.node, rank))
 }
 
 // Where the collector puts the piece of this rank: the index at which sequence v starts in its buffer, which is laid out as the file. Refusals: 1, 2, 3.

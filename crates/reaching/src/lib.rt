@@ -10,7 +10,7 @@ ghost use Rattle.searching.specs.Steps.Search.{stands_at};
 ghost use Rattle.reaching.specs.Numbers.{number_at};
 ghost use Rattle.reaching.specs.Steps.Reaching.{Within, Stepped, HeadAt, CanBeWrong, Led};
 
-use heads::{Head, bytes as head_bytes};
+use heads::{Head, bytes as head_bytes, bytes::Fitting};
 use records::sizes;
 
 // So many bytes can stand in a share of so many letters, with its head of this kind in. (Where a head's numbers are out of range, there are none.)
@@ -65,7 +65,7 @@ pub fn head_with(head: Head, at: usize, bytes: &[u8]) -> Head
     if at == 0 {
         return head_bytes::head_in(bytes);
     }
-    partly::head_after(head, at, bytes)
+    partly::head_after(Fitting { head }, at, bytes)
 }
 
 // This byte can stand after so many with this head.

@@ -8,4 +8,4 @@ pub returns-then-offset-at : goal.returns-then-offset-at
 returns-then-offset-at c = c.head_stands.ensures ∙ sym (simp (lt-ltb _ _ c.if-offset-at.true))
 
 pub returns : goal.returns
-returns c = ap (λ b. eqb b 0) c.head_byte.ensures ∙ sym (simp (le-ltb _ _ c.if-offset-at.false))
+returns c = ap (λ b. eqb b 0) c.byte.ensures ∙ sym (simp (le-ltb _ _ c.if-offset-at.false))

@@ -28,7 +28,7 @@ loop-next-init c = (refl, λ p h. absurd (omega arith), c.head_size-size.ensures
 
 pub bounds-first-next : goal.bounds-first-next
 bounds-first-next c =
-    let l = c in omega (arith, l.loop-next.invariant.2, size_small l.args.head.kind)
+    let l = c in omega (arith, l.loop-next.invariant.2, size_small l.args.of.head.kind)
 
 pub loop-next-preserved : goal.loop-next-preserved
 loop-next-preserved c =
@@ -36,7 +36,7 @@ loop-next-preserved c =
       simp length-set l.loop-next.invariant.0,
       below_more _ _
           (λ p h. get_or-set_other l.loop-next.first l.loop-next.next p _ 0 (λ same. omega arith) ∙ l.loop-next.invariant.1 p h)
-          (get_or-set_same l.loop-next.first l.loop-next.next _ 0 (omega (arith, size_small l.args.head.kind)) ∙ c.byte_after.ensures),
+          (get_or-set_same l.loop-next.first l.loop-next.next _ 0 (omega (arith, size_small l.args.of.head.kind)) ∙ c.byte_after.ensures),
       l.loop-next.invariant.2,
     )
 
@@ -44,4 +44,4 @@ pub returns : goal.returns
 returns c =
     let l = c in
     let s = l in
-    c.head_in.ensures ∙ whole s.args.head s.args.at l.loop-next.first _ l.loop-next.next s.requires.1 s.requires.2 (omega (arith, l.loop-next.invariant.2)) l.loop-next.invariant.1
+    c.head_in.ensures ∙ whole s.args.of.head s.args.at l.loop-next.first _ l.loop-next.next s.requires.0 s.requires.1 (omega (arith, l.loop-next.invariant.2)) l.loop-next.invariant.1

@@ -1,11 +1,7 @@
--- `partly::partly_in` meets its contract: every byte that is passed is as it should be, and the first that isn't is told.
-use mathlib.Core.Path.{◌≡◌, sym, ◌∙◌}
-use mathlib.Core.Logic.{⊎_elim}
-use native.Mathlib.Omega.{arith}
-use Rattle.letters.proofs.Cases.{le_or_lt}
+-- `partly_in` meets its contract: no number is in, or every number has room and every byte is as it should be.
 use Rattle.layout.proofs.Judgments.{not_both}
 use Rattle.heads.proofs.FirstBytes.{blank_partly, partly_blank}
-use Rattle.heads.proofs.Answers.{affirmed, refuted}
+use Rattle.heads.proofs.Answers.{refuted}
 use Rattle.partly.proofs.partly_in.Goals as goal
 
 pub returns-then-at-eq0 : goal.returns-then-at-eq0
@@ -16,30 +12,11 @@ returns-then-at-eq0 c =
 pub returns-then-not-fits : goal.returns-then-not-fits
 returns-then-not-fits c = refuted (λ w. not_both _ (c.fits.ensures.1 w.fits) c.if-not-fits.true)
 
-pub loop-offset-init : goal.loop-offset-init
-loop-offset-init c = (c.head_size-size.ensures, c.fits.ensures.0 c.if-not-fits.false, λ p hi. absurd (omega arith))
-
-pub byte_fits-requires : goal.byte_fits-requires
-byte_fits-requires c = (c.loop-offset.invariant.1, omega (arith, c.loop-offset.invariant.0))
-
-pub returns-then-not-byte_fits : goal.returns-then-not-byte_fits
-returns-then-not-byte_fits c =
-    let l = c in
-    refuted (λ w. not_both _ (w.each l.loop-offset.offset (omega (arith, l.loop-offset.invariant.0))) (sym c.byte_fits.ensures ∙ c.if-not-byte_fits.true))
-
-pub loop-offset-preserved : goal.loop-offset-preserved
-loop-offset-preserved c =
-    let l = c in (
-      l.loop-offset.invariant.0,
-      l.loop-offset.invariant.1,
-      λ p hi.
-          ⊎_elim
-          (λ last.
-          let e : p ≡ l.loop-offset.offset = omega arith in
-          rw e (sym c.byte_fits.ensures ∙ c.if-not-byte_fits.false))
-          (l.loop-offset.invariant.2 p) (le_or_lt l.loop-offset.offset p),
-    )
+pub invariant_of-all_fit : goal.invariant_of-all_fit
+invariant_of-all_fit c = record { fits = c.fits.ensures.0 c.if-not-fits.false }
 
 pub returns : goal.returns
-returns c =
-    let i = c.loop-offset.invariant in affirmed (record { fits = i.1; each = λ p hi. i.2 p (omega (arith, i.0)) })
+returns c = (
+  λ e. record { fits = c.fits.ensures.0 c.if-not-fits.false; each = c.all_fit.ensures.0 e },
+  λ w. c.all_fit.ensures.1 w.each,
+)

@@ -3,10 +3,10 @@ use Rattle.preview_numbers.proofs.InRange.{preview_node_of}
 use Rattle.group.proofs.Refusals.{handed_on, stopped, fine, refuses, gives}
 use Rattle.preview_numbers.proofs.packet_letters.Goals as goal
 
-pub packet-requires : goal.packet-requires
-packet-requires c =
+pub invariant_of-packet : goal.invariant_of-packet
+invariant_of-packet c =
     let s = c in
-    preview_node_of _ _ (fine _ _ c.in_ok-node.was s.node.ensures)
+    record { of = preview_node_of _ _ (fine _ _ c.in_ok-node.was s.node.ensures) }
 
 pub returns-in_err-node : goal.returns-in_err-node
 returns-in_err-node c = rw (handed_on c.from_residual.result _ c.from_residual.ensures.1) (refuses _ _ _ (stopped _ _ _ c.in_err-node.was c.node.ensures))

@@ -16,4 +16,7 @@ pub returns-then-at-eq0 : goal.returns-then-at-eq0
 returns-then-at-eq0 c = rw c.if-at-eq0.true c.head_in.ensures
 
 pub head_after-requires : goal.head_after-requires
-head_after-requires c = ((c.requires.partly (omega (arith, c.if-head_size-at.false, c.head_size.ensures))).fits, omega arith, omega (arith, c.head_size.ensures))
+head_after-requires c = (omega arith, omega (arith, c.head_size.ensures))
+
+pub invariant_of-head_after : goal.invariant_of-head_after
+invariant_of-head_after c = record { fits = (c.requires.partly (omega (arith, c.if-head_size-at.false, c.head_size.ensures))).fits }

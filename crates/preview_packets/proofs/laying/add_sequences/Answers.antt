@@ -20,30 +20,30 @@ unfolding preview_shift
 loop-u-init c =
     let s = c in
     let cleared = c.clear.ensures in
-    (cleared.same_length ∙ s.requires.lengths.1, sym (mul-zero s.args.node), sym (zero-mul s.args.g.l), summed_none 0 _ _ _ cleared.zeros)
+    (cleared.same_length ∙ s.requires.1, sym (mul-zero s.args.of.node), sym (zero-mul s.args.of.g.l), summed_none 0 _ _ _ cleared.zeros)
 
 pub overflow_add-end : goal.overflow_add-end
 overflow_add-end c =
     let s = c in
-    omega (arith, run_inside s.args.g s.args.node s.requires.node s.args.file.now s.requires.lengths.0 c.loop-u.u (omega arith))
+    omega (arith, run_inside s.args.of.g s.args.of.node s.args.of.of s.args.file.now s.requires.0 c.loop-u.u (omega arith))
 
 pub slice_bounds-add_run-end : goal.slice_bounds-add_run-end
 slice_bounds-add_run-end c =
     let s = c in
-    omega (arith, run_inside s.args.g s.args.node s.requires.node s.args.file.now s.requires.lengths.0 c.loop-u.u (omega arith))
+    omega (arith, run_inside s.args.of.g s.args.of.node s.args.of.of s.args.file.now s.requires.0 c.loop-u.u (omega arith))
 
 pub add_run-requires : goal.add_run-requires
 unfolding preview_packet
 add_run-requires c =
     let s = c in
     let l = c.loop-u in
-    simp length-take (omega (arith, preview_rises s.args.g s.args.node (l.u + 1) s.requires.node (omega arith) (omega arith)))
+    simp length-take (omega (arith, preview_rises s.args.of.g s.args.of.node (l.u + 1) s.args.of.of (omega arith) (omega arith)))
 
 pub overflow_add-shift : goal.overflow_add-shift
 overflow_add-shift c =
     let s = c in
     let l = c.loop-u in
-    omega (arith, preview_rises s.args.g s.args.node (l.u + 1) s.requires.node (omega arith) (omega arith), preview_shift_at_most s.args.g s.args.node s.requires.node)
+    omega (arith, preview_rises s.args.of.g s.args.of.node (l.u + 1) s.args.of.of (omega arith) (omega arith), preview_shift_at_most s.args.of.g s.args.of.node s.args.of.of)
 
 pub loop-u-preserved : goal.loop-u-preserved
 loop-u-preserved c =
@@ -51,18 +51,18 @@ loop-u-preserved c =
     let l = c.loop-u in
     let seen = seen_whole _ _ _ _ c.add_run.ensures.letters in (
       seen.same_length ∙ l.invariant.0,
-      ap (λ m. m + s.args.node) l.invariant.1 ∙ next_shift s.args.node l.u,
-      ap (λ m. m + s.args.g.l) l.invariant.2 ∙ next_start s.args.g.l l.u,
-      one_more s.args.g s.args.node s.requires.node s.args.file.now s.requires.lengths.0 l.u l.end l.shift _ _ (omega arith) l.invariant.2 l.invariant.1 l.invariant.3 seen,
+      ap (λ m. m + s.args.of.node) l.invariant.1 ∙ next_shift s.args.of.node l.u,
+      ap (λ m. m + s.args.of.g.l) l.invariant.2 ∙ next_start s.args.of.g.l l.u,
+      one_more s.args.of.g s.args.of.node s.args.of.of s.args.file.now s.requires.0 l.u l.end l.shift _ _ (omega arith) l.invariant.2 l.invariant.1 l.invariant.3 seen,
     )
 
 pub shape_of-packet : goal.shape_of-packet
-shape_of-packet c = c.loop-u.invariant.0 ∙ sym c.requires.lengths.1
+shape_of-packet c = c.loop-u.invariant.0 ∙ sym c.requires.1
 
 pub returns : goal.returns
 returns c =
     let s = c in
     let l = c.loop-u in
-    let done : l.u ≡ s.args.g.k = omega arith in
-    summed_packet s.args.g s.args.node s.requires.node s.args.file.now s.requires.lengths.0 l.packet l.invariant.0
-    (subst (λ m. Summed m 0 (preview_shift s.args.node) (sequence 0 s.args.file.now s.args.g.l) l.packet) done l.invariant.3)
+    let done : l.u ≡ s.args.of.g.k = omega arith in
+    summed_packet s.args.of.g s.args.of.node s.args.of.of s.args.file.now s.requires.0 l.packet l.invariant.0
+    (subst (λ m. Summed m 0 (preview_shift s.args.of.node) (sequence 0 s.args.file.now s.args.of.g.l) l.packet) done l.invariant.3)

@@ -9,4 +9,4 @@ use Rattle.preview_numbers.specs.Previews.{preview_packet}
 use Rattle.preview_packets.proofs.laying.add_sequences.Given as goal
 
 abbrev pub invariant-loop-u : goal.invariant-loop-u
-invariant-loop-u l = (length l.packet ≡ preview_packet l.g l.node) × (l.shift ≡ preview_shift l.node (l.u + 1)) × (l.end ≡ l.u * l.g.l) × Summed l.u 0 (preview_shift l.node) (sequence 0 l.file l.g.l) l.packet
+invariant-loop-u l = (length l.packet ≡ preview_packet l.of.g l.of.node) × (l.shift ≡ preview_shift l.of.node (l.u + 1)) × (l.end ≡ l.u * l.of.g.l) × Summed l.u 0 (preview_shift l.of.node) (sequence 0 l.file l.of.g.l) l.packet

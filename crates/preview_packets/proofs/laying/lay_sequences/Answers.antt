@@ -12,7 +12,7 @@ overflow_sub-widest c = omega arith
 
 pub invariant_of-runs : goal.invariant_of-runs
 invariant_of-runs c =
-    let runs = sequence_runs c.args.g c.args.node c.requires.node.0 c.args.file.now c.requires.lengths.0 _ _ c.sequence_starts-starts.ensures c.row-shifts.ensures in
+    let runs = sequence_runs c.args.of.g c.args.of.node c.args.of.of c.args.file.now c.requires.lengths.0 _ _ c.sequence_starts-starts.ensures c.row-shifts.ensures in
     record { runs = first_runs _ _ _ _ runs.inside.many _ runs }
 
 pub lay_sum-requires : goal.lay_sum-requires
@@ -20,12 +20,12 @@ unfolding preview_packet
 lay_sum-requires c =
     let starts = c.sequence_starts-starts.ensures in
     let shifts = c.row-shifts.ensures in
-    let runs = sequence_runs c.args.g c.args.node c.requires.node.0 c.args.file.now c.requires.lengths.0 _ _ starts shifts in
-    (first_seen _ _ _ c.args.g.l runs.inside.many _ _ _ (sequences_seen c.args.g c.args.node c.requires.node.0 c.args.file.now c.requires.lengths.0 _ _ starts shifts (length c.args.packet.now) c.requires.lengths.1 (omega arith)), omega arith)
+    let runs = sequence_runs c.args.of.g c.args.of.node c.args.of.of c.args.file.now c.requires.lengths.0 _ _ starts shifts in
+    (first_seen _ _ _ c.args.of.g.l runs.inside.many _ _ _ (sequences_seen c.args.of.g c.args.of.node c.args.of.of c.args.file.now c.requires.lengths.0 _ _ starts shifts (length c.args.packet.now) c.requires.lengths.1 (omega arith)), omega arith)
 
 pub returns : goal.returns
 returns c =
     let starts = c.sequence_starts-starts.ensures in
     let shifts = c.row-shifts.ensures in
-    let runs = sequence_runs c.args.g c.args.node c.requires.node.0 c.args.file.now c.requires.lengths.0 _ _ starts shifts in
-    laid_packet c.args.g c.args.node c.requires.node.0 c.args.file.now c.requires.lengths.0 _ _ starts shifts _ _ c.requires.lengths.1 (first_holding _ _ _ c.args.g.l runs.inside.many _ _ _ _ c.lay_sum.ensures)
+    let runs = sequence_runs c.args.of.g c.args.of.node c.args.of.of c.args.file.now c.requires.lengths.0 _ _ starts shifts in
+    laid_packet c.args.of.g c.args.of.node c.args.of.of c.args.file.now c.requires.lengths.0 _ _ starts shifts _ _ c.requires.lengths.1 (first_holding _ _ _ c.args.of.g.l runs.inside.many _ _ _ _ c.lay_sum.ensures)

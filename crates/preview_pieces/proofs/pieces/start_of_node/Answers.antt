@@ -9,9 +9,9 @@ pub start_of_rank-requires : goal.start_of_rank-requires
 unfolding rank_refusal
 start_of_rank-requires c =
     let s = c in
-    let w = rank_of s.args.g _ (fine _ _ c.in_ok-one_of.was c.one_of.ensures) in
-    (s.requires, w.0, w.1)
+    let w = rank_of s.args.of.g _ (fine _ _ c.in_ok-one_of.was c.one_of.ensures) in
+    (w.0, w.1)
 
 pub returns-in_err-one_of : goal.returns-in_err-one_of
 unfolding preview_piece_refusal rank_refusal
-returns-in_err-one_of c = rw (handed_on c.from_residual.result _ c.from_residual.ensures.1) (refuses _ _ _ (skipped _ _ _ (of_preview_node _ _ c.requires) (passed_on _ _ _ _ c.in_err-one_of.was c.one_of.ensures)))
+returns-in_err-one_of c = rw (handed_on c.from_residual.result _ c.from_residual.ensures.1) (refuses _ _ _ (skipped _ _ _ (of_preview_node _ _ c.args.of.of) (passed_on _ _ _ _ c.in_err-one_of.was c.one_of.ensures)))

@@ -11,11 +11,11 @@ pub returns-then-held-wanted : goal.returns-then-held-wanted
 unfolding preview_piece_refusal
 returns-then-held-wanted c =
     let s = c in
-    refuses _ _ _ (sym (simp (of_preview_node _ _ s.requires.0, of_rank s.args.g _ s.requires.1 s.requires.2, ne_eqb _ _ (λ e. c.if-held-wanted.true (e ∙ sym c.packet-wanted.ensures)))))
+    refuses _ _ _ (sym (simp (of_preview_node _ _ s.args.of.of, of_rank s.args.of.g _ s.requires.0 s.requires.1, ne_eqb _ _ (λ e. c.if-held-wanted.true (e ∙ sym c.packet-wanted.ensures)))))
 
 pub returns : goal.returns
 unfolding preview_piece_refusal
 returns c =
     let s = c in
-    gives _ _ _ (simp (of_preview_node _ _ s.requires.0, of_rank s.args.g _ s.requires.1 s.requires.2, eq-eqb _ _ (c.if-held-wanted.false ∙ c.packet-wanted.ensures)))
+    gives _ _ _ (simp (of_preview_node _ _ s.args.of.of, of_rank s.args.of.g _ s.requires.0 s.requires.1, eq-eqb _ _ (c.if-held-wanted.false ∙ c.packet-wanted.ensures)))
     c.preview_shift.ensures.0

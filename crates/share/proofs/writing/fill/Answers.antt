@@ -5,4 +5,4 @@ use Rattle.share.proofs.writing.fill.Goals as goal
 pub returns : goal.returns
 returns c =
     let s = c in
-    laid_share s.args.head s.args.packets.now _ c.head_size-front.ensures s.args.share.now _ _ _ _ s.requires.2 c.put_head.ensures c.put_full_blocks.ensures c.put_last_block.ensures c.put_end.ensures
+    laid_share s.args.of.head s.args.packets.now _ c.head_size-front.ensures s.args.share.now _ _ _ _ s.requires.1 c.put.ensures c.put_full_blocks.ensures c.put_last_block.ensures c.put_end.ensures

@@ -53,7 +53,10 @@ fill-requires c =
     let s = c in
     let k = c in
     let e = exact s.args.head _ _ (fine _ _ c.in_ok-lengths.was (checked s.args.head _ _ _ _ _ _ s.requires k.total-letters.ensures k.head_size.ensures k.size_for-bytes.ensures k.lengths.ensures)) in
-    (fits_in_range s.args.head (fine_numbers s.args.head (omega arith) s.requires), omega (arith, e.0, total_small s.args.head, total_fine s.args.head.kind s.args.head.group s.args.head.node s.requires), e.1)
+    (omega (arith, e.0, total_small s.args.head, total_fine s.args.head.kind s.args.head.group s.args.head.node s.requires), e.1)
+
+pub invariant_of-fill : goal.invariant_of-fill
+invariant_of-fill c = record { fits = fits_in_range c.args.head (fine_numbers c.args.head (omega arith) c.requires) }
 
 pub returns-in_err-lengths : goal.returns-in_err-lengths
 returns-in_err-lengths c =

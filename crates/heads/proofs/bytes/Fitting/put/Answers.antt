@@ -1,9 +1,9 @@
--- `bytes::put_head` meets its contract: as many bytes are laid as the head has.
+-- `Fitting::put` meets its contract: as many bytes are laid as the head has.
 use mathlib.Core.Path.{◌≡◌, sym, subst, ◌∙◌}
 use mathlib.Core.List.{List}
 use Prim.Native.Nat.{ℕ}
 use Rattle.letters.specs.Laid.{Laid}
-use Rattle.heads.proofs.bytes.put_head.Goals as goal
+use Rattle.heads.proofs.bytes.Fitting.put.Goals as goal
 
 laid_as : (before after : List ℕ) (f : ℕ → ℕ) (size whole : ℕ) → size ≡ whole → Laid before after 0 size f → Laid before after 0 whole f
 laid_as before after f size whole e = subst (λ n. Laid before after 0 n f) e
