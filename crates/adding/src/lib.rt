@@ -14,9 +14,7 @@ pub fn add_run(into: &mut [u8], at: usize, run: &[u8]) -> usize
     ensures letters { into.new ≡ added xors into.old at run.now }
     ensures count { result ≡ length run.now }
 {
-    // The run as a part of itself is what is lent on: so the compiler takes its pointer and length in registers, five instructions less a call.
-    let lent = &run[0..];
-    let i = eights::add_rests(into, at, lent);
-    eights::add_blocks(into, at, lent, i);
-    lent.len()
+    let i = eights::add_rests(into, at, run);
+    eights::add_blocks(into, at, run, i);
+    run.len()
 }

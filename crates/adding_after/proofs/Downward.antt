@@ -13,7 +13,7 @@ use Rattle.letters.specs.Algebra.{xors}
 use Rattle.letters.specs.Runs.{added}
 use Rattle.letters.specs.Laid.{Laid}
 use Rattle.adding_after.specs.Added.{plus_from}
-use Rattle.letters.specs.Steps.Rests.{widest_block, left_over}
+use Rattle.letters.specs.Steps.Rests.{left_over}
 use Rattle.letters.proofs.Cases.{le_or_lt}
 use Rattle.letters.proofs.Runs.{length_added, added_before, added_from, added_after}
 use Rattle.letters.proofs.Rests.{no_block, one_block, block_fits}
@@ -57,10 +57,6 @@ laid_below xs ys zs a b c f g order same_distance v w same =
       laid = λ p lo hi. ⊎_elim (λ later. w.after p later ∙ v.laid p later hi) (λ earlier. w.laid p lo earlier ∙ same p lo earlier) (le_or_lt b p);
       after = λ p h. w.after p (omega arith) ∙ v.after p h;
     }
-
--- from the same index on by another name
-pub laid_from : (xs ys : List ℕ) (a b c : ℕ) (f : ℕ → ℕ) → a ≡ b → Laid xs ys b c f → Laid xs ys a c f
-laid_from xs ys a b c f e w = rw e w
 
 -- where a letter stands in a run and in its part from i on
 same_distance : (from to i p : ℕ) → to + i ≤ p → from + i + (p - (to + i)) ≡ from + (p - to)
@@ -108,12 +104,3 @@ none_then n width some e h =
   where
     less : (m r : ℕ) → m + r ≡ n → r ≡ 0 + width → n - width ≡ m
     less m r all over = omega arith
-
--- the widest blocks, one less
-pub whole_there : (n : ℕ) → left_over n widest_block ≡ 0 → 0 < n → widest_block ≤ n
-unfolding left_over
-whole_there n e h = omega arith
-
-pub whole_less : (n : ℕ) → left_over n widest_block ≡ 0 → left_over (n - widest_block) widest_block ≡ 0
-unfolding left_over
-whole_less n e = omega arith

@@ -53,9 +53,8 @@ pub fn add_blocks(buffer: &mut [u8], to: usize, from: usize, count: usize)
     requires { (left_over count widest_block ≡ 0) × (from ≤ to) × (to + count ≤ length buffer.old) }
     ensures { Laid buffer.old buffer.new to (to + count) (plus_from buffer.old to from) }
 {
-    let mut i = count;
-    while 0 < i {
-        i -= eights::WIDEST;
+    for b in (0..count / eights::WIDEST).rev() {
+        let i = b * eights::WIDEST;
         blocks::add_block(buffer, to + i, from + i, eights::WIDEST);
     }
 }

@@ -12,14 +12,12 @@ fn in_few(from: &[u8], start: usize, count: usize) -> usize
     ensures { Zeros from.now start count result }
 {
     let mut zeros: u8 = 0;
-    let mut i = 0;
-    while i < count {
+    for i in 0..count {
         if from[start + i] == 0 {
             zeros += 1;
         }
-        i += 1;
     }
-    zeros as usize
+    usize::from(zeros)
 }
 
 // Of the run, `zeros` are among the letters that blocks of `width` leave over. The answer is how many there are among those that blocks twice as wide leave over:
@@ -55,10 +53,9 @@ pub fn in_blocks(from: &[u8], start: usize, count: usize, rests: usize) -> usize
     ensures { Zeros from.now start count result }
 {
     let mut zeros = rests;
-    let mut i = count % eights::WIDEST;
-    while i < count {
-        zeros += in_few(from, start + i, eights::WIDEST);
-        i += eights::WIDEST;
+    let first = start + count % eights::WIDEST;
+    for b in 0..count / eights::WIDEST {
+        zeros += in_few(from, first + b * eights::WIDEST, eights::WIDEST);
     }
     zeros
 }

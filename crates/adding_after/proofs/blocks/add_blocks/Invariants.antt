@@ -1,18 +1,9 @@
--- `after::add_blocks` meets its contract: after every turn the letters from i on are in, and what is left are whole blocks.
-use mathlib.Core.Path.{◌≡◌}
-use Prim.Native.Nat.{◌+◌, ◌-◌, ◌≤◌}
-use lib.ListN.{length}
+-- The letters of the last blocks, from block b on, are in.
+use Rattle.std.proofs.Common.{◌+◌, ◌*◌}
 use Rattle.letters.specs.Laid.{Laid}
+use Rattle.letters.specs.Steps.Rests.{widest_block}
 use Rattle.adding_after.specs.Added.{plus_from}
-use Rattle.letters.specs.Steps.Rests.{widest_block, left_over}
 use Rattle.adding_after.proofs.blocks.add_blocks.Given as goal
 
-abbrev pub invariant-loop-i : goal.invariant-loop-i
-invariant-loop-i l =
-    (l.i ≤ l.count)
-    × (left_over l.i widest_block ≡ 0)
-    × (length l.buffer ≡ length l.initial.buffer)
-    × Laid l.initial.buffer l.buffer (l.to + l.i) (l.to + l.count) (plus_from l.initial.buffer l.to l.from)
-
-abbrev pub decreases-loop-i : goal.decreases-loop-i
-decreases-loop-i l = l.i
+abbrev pub invariant-loop-b : goal.invariant-loop-b
+invariant-loop-b l = Laid l.initial.buffer l.buffer (l.to + l.b * widest_block) (l.to + l.count) (plus_from l.initial.buffer l.to l.from)

@@ -1,33 +1,12 @@
--- `after::add_rests` meets its contract: after every step the letters from i on are in.
-use native.Mathlib.Omega.{arith}
+-- After every step the letters from i on are in.
+use Rattle.std.proofs.Common.{arith}
 use Rattle.adding_after.proofs.Downward.{laid_down}
 use Rattle.adding_after.proofs.blocks.add_rests.Goals as goal
 
-pub add_rest-i-requires : goal.add_rest-i-requires
-add_rest-i-requires c = record { width = (omega arith, omega arith); lengths = (c.add_odd-i.ensures.left.1, omega arith, omega arith) }
-
-pub add_rest-i-requires-2 : goal.add_rest-i-requires-2
-add_rest-i-requires-2 c = record { width = (omega arith, omega arith); lengths = (c.add_rest-i.ensures.left.1, omega arith, omega arith) }
-
-pub add_rest-i-requires-3 : goal.add_rest-i-requires-3
-add_rest-i-requires-3 c = record { width = (omega arith, omega arith); lengths = (c.add_rest-i-2.ensures.left.1, omega arith, omega arith) }
-
-pub add_rest-requires : goal.add_rest-requires
-add_rest-requires c = record { width = (omega arith, omega arith); lengths = (c.add_rest-i-3.ensures.left.1, omega arith, omega arith) }
-
-pub returns : goal.returns
-returns c =
-    let s₅ = c in
-    let s₄ = s₅ in
-    let s₃ = s₄ in
-    let s₂ = s₃ in
-    let s₁ = s₂ in
-    let entry = s₁ in
-    let a = entry.args in
-    let order = entry.requires.0 in
-    let l₁ = s₁.add_odd-i.ensures.letters in
-    let l₂ = laid_down a.buffer.now _ _ a.to a.from _ _ a.count order s₂.add_rest-i.ensures.left.0 (omega arith) l₁ s₂.add_rest-i.ensures.letters in
-    let l₃ = laid_down a.buffer.now _ _ a.to a.from _ _ a.count order s₃.add_rest-i-2.ensures.left.0 (omega arith) l₂ s₃.add_rest-i-2.ensures.letters in
-    let l₄ = laid_down a.buffer.now _ _ a.to a.from _ _ a.count order s₄.add_rest-i-3.ensures.left.0 (omega arith) l₃ s₄.add_rest-i-3.ensures.letters in
-    let l₅ = laid_down a.buffer.now _ _ a.to a.from _ _ a.count order s₅.add_rest.ensures.left.0 (omega arith) l₄ s₅.add_rest.ensures.letters in
-    record { letters = l₅; left = (omega arith, s₅.add_rest.ensures.left.1) }
+pub returns-clause-letters : goal.returns-clause-letters
+returns-clause-letters c =
+    let a = c.args in
+    let one = laid_down a.buffer.now _ _ a.to a.from _ _ a.count c.requires.0 c.add_rest-i.ensures.left.0 (omega arith) c.add_odd-i.ensures.letters c.add_rest-i.ensures.letters in
+    let two = laid_down a.buffer.now _ _ a.to a.from _ _ a.count c.requires.0 c.add_rest-i-2.ensures.left.0 (omega arith) one c.add_rest-i-2.ensures.letters in
+    let four = laid_down a.buffer.now _ _ a.to a.from _ _ a.count c.requires.0 c.add_rest-i-3.ensures.left.0 (omega arith) two c.add_rest-i-3.ensures.letters in
+    laid_down a.buffer.now _ _ a.to a.from _ _ a.count c.requires.0 c.add_rest.ensures.left.0 (omega arith) four c.add_rest.ensures.letters
