@@ -4,20 +4,12 @@ use Prim.Native.Nat.{◌+◌, ◌-◌, ◌*◌}
 use native.Mathlib.Omega.{arith}
 use Rattle.letters.specs.Algebra.{counts, sum}
 use Rattle.letters.proofs.Sums.{sum_more, sum_none_terms}
-use Rattle.system.proofs.System.{sequence_fits}
 use Rattle.counting.specs.Steps.Taken.{others_terms}
 use Rattle.counting.proofs.Taken.{by_sequences}
 use Rattle.counting.proofs.of_solving.Goals as goal
 
 pub loop-a-init : goal.loop-a-init
 loop-a-init c = (sym (sum_none_terms counts _), omega arith)
-
-pub overflow_mul-a : goal.overflow_mul-a
-overflow_mul-a c = omega (arith, sequence_fits c.args.s c.args.n c.loop-a.a (omega arith))
-
-pub of_sequence-count-requires : goal.of_sequence-count-requires
-of_sequence-count-requires c =
-    (c.requires.0, omega arith, omega (arith, sequence_fits c.args.s c.args.n c.loop-a.a (omega arith)), omega arith, omega arith)
 
 pub loop-a-preserved : goal.loop-a-preserved
 loop-a-preserved c =

@@ -1,5 +1,5 @@
 -- `of_all` meets its contract: after every turn what the run reads of the first a sequences is out.
-use mathlib.Core.Path.{◌≡◌, refl}
+use mathlib.Core.Path.{refl}
 use Prim.Native.Nat.{◌+◌}
 use native.Mathlib.Omega.{arith}
 use Rattle.equation.specs.Rows.{shift_in}
@@ -16,12 +16,3 @@ loop-a-preserved c =
     let l = c.loop-a in
     let t = c.args.tile.now in
     takes_more t.tile (omega arith) (omega arith) l.a (l.a + 1) refl (omega (arith, t.tile.few)) l.invariant c.of_one.ensures
-
-pub shape_of-part : goal.shape_of-part
-shape_of-part c = c.loop-a.invariant.only.same_length
-
-pub returns : goal.returns
-returns c =
-    let l = c.loop-a in
-    let all : l.a ≡ c.args.tile.now.hi = omega arith in
-    rw all at l.invariant

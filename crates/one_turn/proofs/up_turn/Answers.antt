@@ -14,12 +14,6 @@ overflow_sub-moved-in-loop-b c =
     let b = c.loop-b.b in
     omega (arith, nth_next c.args.exps.now b, exponents_apart _ c.args.exps.now c.requires.tables.0 c.args.j (b + 1) (omega arith) (omega arith) (omega arith))
 
-pub add_later-requires : goal.add_later-requires
-add_later-requires c =
-    let b = c.loop-b.b in
-    let next = nth_next c.args.starts.now b in
-    (omega (arith, c.requires.runs.order b (b + 1) (omega arith) (omega arith) (omega arith)), omega (arith, c.requires.runs.fits (b + 1) (omega arith) (omega arith)))
-
 pub loop-b-preserved : goal.loop-b-preserved
 loop-b-preserved c =
     let l = c.loop-b in

@@ -1,12 +1,12 @@
 -- `solve_tiles` meets its contract: after every tile the sequences are solved up to its last round, and after the last one all of them.
 use native.Mathlib.Omega.{arith}
-use mathlib.Core.Path.{◌≡◌, refl, subst, ◌∙◌}
+use mathlib.Core.Path.{◌≡◌, subst, ◌∙◌}
 use Prim.Native.Nat.{◌+◌, ◌-◌}
 use Rattle.letters.specs.Algebra.{xors}
 use Rattle.system.specs.System.{sequence}
 use Rattle.equation.specs.Rows.{shift_in}
 use Rattle.tiles.specs.Tile.{Through}
-use Rattle.tiles.proofs.Tile.{through_start, through_end}
+use Rattle.tiles.proofs.Tile.{through_end}
 use Rattle.one_turn.proofs.Tables.{nth_next}
 use Rattle.rounds.proofs.ByRank.{still_below}
 use Rattle.solving.proofs.Tiles.{tile_here, waits_small}
@@ -17,25 +17,10 @@ overflow_add-rounds c =
     let y = c.args.system.now in
     omega (arith, y.solvable.shifts.some_nodes, y.solvable.few_letters, waits_small y.s y.rows.now y.delays.now y.solvable.shifts y.waits (y.s - 1) (omega arith))
 
-pub loop-done-init : goal.loop-done-init
-loop-done-init c = (
-  refl,
-  record { within = omega arith; begun = λ h. absurd (omega arith); next = λ h. absurd (omega arith) },
-  record { within = omega arith; ended = λ h. absurd (omega arith); next = λ h. absurd (omega arith) },
-  through_start xors _ _ _ _,
-  omega arith,
-)
-
 pub ended-below-requires-clause-small : goal.ended-below-requires-clause-small
 ended-below-requires-clause-small c =
     let y = c.args.system.now in
     λ i h. omega (arith, waits_small y.s y.rows.now y.delays.now y.solvable.shifts y.waits i (omega (arith, c.begun-hi.ensures.0.within)))
-
-pub cut-end-requires-clause-s_bound : goal.cut-end-requires-clause-s_bound
-cut-end-requires-clause-s_bound c =
-    let y = c.args.system.now in
-    let later = still_below y.s y.n y.delays.now _ _ c.loop-done.done y.solvable.shifts.some_nodes c.ended-below.ensures c.begun-hi.ensures.0.within (omega arith) in
-    (y.solvable.shifts.few-nodes, y.waits.sixteen, y.solvable.few_letters, c.loop-done.invariant.4, later, c.ended-below.ensures.within, c.begun-hi.ensures.0, c.ended-below.ensures)
 
 pub cut-end-requires-clause-small : goal.cut-end-requires-clause-small
 cut-end-requires-clause-small c =

@@ -9,10 +9,6 @@ use Rattle.turns.proofs.down.Goals as goal
 pub loop-j-init : goal.loop-j-init
 loop-j-init c = (omega arith, way_down_start _ _ _ _ _ _ _ (omega arith))
 
-pub down_turn-requires : goal.down_turn-requires
-down_turn-requires c =
-    record { turn = (omega arith, omega arith); runs = apart_later _ _ _ _ _ _ _ (omega arith) c.loop-j.invariant.1.only.same_length c.requires.runs }
-
 pub loop-j-preserved : goal.loop-j-preserved
 loop-j-preserved c =
     let l = c.loop-j in

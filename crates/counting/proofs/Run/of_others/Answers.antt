@@ -1,10 +1,9 @@
 -- `Run::of_others` meets its contract: after every turn one rank more is in the sum.
-use mathlib.Core.Path.{◌≡◌, sym, ap, ap₂, ◌∙◌}
+use mathlib.Core.Path.{sym, ap₂, ◌∙◌}
 use Prim.Native.Nat.{◌+◌}
 use native.Mathlib.Omega.{arith}
 use Rattle.letters.specs.Algebra.{counts}
 use Rattle.letters.proofs.Sums.{sum_more, sum_none_terms}
-use Rattle.counting.specs.Steps.Taken.{others_terms}
 use Rattle.counting.proofs.Run.of_others.Goals as goal
 
 pub loop-b-init : goal.loop-b-init
@@ -14,11 +13,3 @@ pub loop-b-preserved : goal.loop-b-preserved
 loop-b-preserved c =
     let l = c.loop-b in
     (ap₂ ◌+◌ l.invariant.0 c.of_other-count.ensures.0 ∙ sym (sum_more counts l.b _), omega arith)
-
-pub returns : goal.returns
-returns c =
-    let l = c.loop-b in
-    let a = c.args in
-    let r = a.self.now in
-    let done : l.b ≡ a.s = omega arith in
-    (l.invariant.0 ∙ ap (λ m. others_terms r.buffer.now r.start r.n a.rows.now m a.a) done, omega arith)
