@@ -6,4 +6,4 @@ mod telling;
 mod words;
 
 pub use telling::{answers, state};
-pub use words::{same, with};
+pub use words::with;

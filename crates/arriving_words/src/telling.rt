@@ -1,17 +1,16 @@
 // What is written of a state.
 use crate::words;
 use arriving::{Arriving, Coming};
-use judging::Judgment;
+use judging::Fault;
 
 // What is coming: 0, the head and the bytes of the whole share, or the refusal.
-fn coming(coming: Coming) {
+fn coming(coming: Result<Coming, Fault>) {
     match coming {
-        Coming::Share(head, bytes) => {
-            judged_words::head(head);
-            lines::number(b" bytes ", bytes);
+        Ok(share) => {
+            judged_words::head(share.head);
+            lines::number(b" bytes ", share.bytes);
         }
-        Coming::Refused(refusal) => judged_words::tell(Judgment::Refused(refusal)),
-        Coming::Malformed(refusal, at) => judged_words::tell(Judgment::Malformed(refusal, at)),
+        Err(fault) => judged_words::fault(fault),
     }
 }
 

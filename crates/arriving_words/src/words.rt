@@ -32,17 +32,3 @@ pub fn with(state: Arriving, i: usize, number: usize) -> Arriving {
     }
     other
 }
-
-// Whether two states have the same words.
-pub fn same(a: Arriving, b: Arriving) -> bool {
-    let these = of(a);
-    let those = of(b);
-    let mut i = 0;
-    while i < 9 {
-        if these[i] != those[i] {
-            return false;
-        }
-        i += 1;
-    }
-    true
-}

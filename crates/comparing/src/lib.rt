@@ -11,6 +11,7 @@ ghost use Rattle.matrix.specs.Matrix.{packet, packets as product};
 ghost use Rattle.matching.specs.Same.{SameFor};
 
 use group::Group;
+use lengths::known::Member;
 use matching_windows as windows;
 use matrix::encoding::Encoding;
 use matrix::entries;
@@ -27,7 +28,7 @@ pub fn right_letters(g: Group, node: usize, file: &[u8], held: &[u8]) -> usize
     let encoding = Encoding {
         g,
         node,
-        size: lengths::known::widened_in(&table, g, node),
+        size: Member { g, node }.widened_in(&table),
         table: &table,
         file,
     };

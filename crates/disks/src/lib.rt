@@ -3,7 +3,8 @@
 #![tactic(auto)]
 
 use group::Group;
-use share::Judgment;
+use heads::Head;
+use share::Fault;
 
 pub fn six() -> Group {
     group::of(6, 3, 4, 16)
@@ -19,32 +20,25 @@ pub fn bytes(node: usize) -> usize {
     lines::value(share::share_bytes(six(), node))
 }
 
-// What bytes are judged to be: for a text, 0 complete, 1 unfinished, 2 malformed, and then the number and the place.
-#[derive(Clone, Copy)]
-pub struct Judged {
-    pub choice: usize,
-    pub number: usize,
-    pub place: usize,
+// What the first bytes on a node's disk are judged to be.
+pub fn judge(node: usize, bytes: usize, disks: &[u8]) -> Result<Head, Fault> {
+    share::judge(lines::part(disks, node % 7 * 146, bytes))
 }
 
-// What the first bytes on a node's disk are judged to be.
-pub fn judge(node: usize, bytes: usize, disks: &[u8]) -> Judged {
-    let judgment = share::judge(lines::part(disks, node % 7 * 146, bytes));
-    let choice = match judgment {
-        Judgment::Complete(_) => 0,
-        Judgment::Refused(_) => 1,
-        Judgment::Malformed(_, _) => 2,
-    };
-    Judged {
-        choice,
-        number: judged_words::number(judgment),
-        place: judged_words::place(judgment),
+// The same for a text: 0 complete, 1 unfinished, 2 malformed.
+pub fn choice(judgment: Result<Head, Fault>) -> usize {
+    match judgment {
+        Ok(_) => 0,
+        Err(Fault::Refused(_)) => 1,
+        Err(Fault::Malformed(_, _)) => 2,
     }
 }
 
-// Tells line n of a text, which is about a judgment.
-pub fn tell_judged(text: &[u8], n: usize, judged: Judged) {
-    marks::tell(text, n, judged.choice, judged.number, judged.place, 0);
+// Tells line n of a text, which is about a judgment: its choice, its number and its place.
+pub fn tell_judged(text: &[u8], n: usize, judgment: Result<Head, Fault>) {
+    let number = judged_words::number(judgment);
+    let place = judged_words::place(judgment);
+    marks::tell(text, n, &[choice(judgment), number, place]);
 }
 
 // Writes a node's packets to its disk.
@@ -63,10 +57,8 @@ fn spread_to(node: usize, file: &[u8], disks: &mut [u8]) {
 
 // The same for all six.
 pub fn spread(file: &[u8], disks: &mut [u8]) {
-    let mut node: usize = 1;
-    while node < 7 {
+    for node in 1..7 {
         spread_to(node, file, disks);
-        node += 1;
     }
 }
 
@@ -93,13 +85,11 @@ pub fn lose(disks: &mut [u8]) {
 
 // Tells what is on the six disks once the batch, of 144 letters, has gone there; and disk 5 fills up one byte too early.
 pub fn show(text: &[u8], disks: &[u8]) {
-    marks::tell(text, 0, 144, 0, 0, 0);
-    let mut node: usize = 1;
-    while node < 7 {
+    marks::tell(text, 0, &[144]);
+    for node in 1..7 {
         let count = bytes(node);
-        let judged = judge(node, count, disks);
-        marks::tell(text, 1, node, letters(node), count, judged.choice);
-        node += 1;
+        let choice = choice(judge(node, count, disks));
+        marks::tell(text, 1, &[node, letters(node), count, choice]);
     }
     tell_judged(text, 2, judge(5, 145, disks));
 }

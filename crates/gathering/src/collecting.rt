@@ -6,6 +6,7 @@ ghost use Rattle.matrix.specs.Matrix.{before, entry_number, Free};
 ghost use Rattle.gathering.specs.Steps.Gathered.{collected_without};
 
 use crate::kept;
+use lengths::known::Member;
 use matrix::entries;
 use present::Nodes;
 
@@ -41,7 +42,7 @@ fn collect_piece(nodes: &Nodes, without: usize, v: usize, u: usize, at: usize, f
     let g = nodes.g;
     let rank = kept::rank(without, v);
     let node = nodes.ids[rank - 1];
-    let start = nodes.starts[rank - 1] + lengths::known::packet_start(g, node, u);
+    let start = nodes.starts[rank - 1] + Member { g, node }.packet_start(u);
     let from = start + shifts::shift(node, v);
     letters::moving::copy(nodes.packets, from, file, at, g.l);
 }

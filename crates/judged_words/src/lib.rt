@@ -5,32 +5,30 @@
 mod runs;
 
 use heads::Head;
-use judging::Judgment;
-pub use runs::{Run, end, next, start};
+use judging::Fault;
+pub use runs::sweep;
 
 // The number.
-pub fn number(judgment: Judgment) -> usize {
+pub fn number(judgment: Result<Head, Fault>) -> usize {
     match judgment {
-        Judgment::Complete(_) => 0,
-        Judgment::Refused(refusal) => group::refusal_number(refusal),
-        Judgment::Malformed(refusal, _) => group::refusal_number(refusal),
+        Ok(_) => 0,
+        Err(fault) => fault.number(),
     }
 }
 
 // The place; 0 where there is none.
-pub fn place(judgment: Judgment) -> usize {
+pub fn place(judgment: Result<Head, Fault>) -> usize {
     match judgment {
-        Judgment::Complete(_) => 0,
-        Judgment::Refused(_) => 0,
-        Judgment::Malformed(_, at) => at,
+        Err(Fault::Malformed(_, at)) => at,
+        _ => 0,
     }
 }
 
-// Writes a number and its place.
-pub fn say(number: usize, place: usize) {
-    lines::decimal(number);
-    if 7 < number {
-        lines::number(b" at ", place);
+// Writes the number of what is wrong, and its place.
+pub fn fault(fault: Fault) {
+    lines::decimal(fault.number());
+    if let Fault::Malformed(_, at) = fault {
+        lines::number(b" at ", at);
     }
 }
 
@@ -52,16 +50,15 @@ pub fn head(head: Head) {
 }
 
 // Writes a judgment: a share's with its head.
-pub fn tell(judgment: Judgment) {
-    if let Judgment::Complete(own) = judgment {
-        head(own);
-        return;
+pub fn tell(judgment: Result<Head, Fault>) {
+    match judgment {
+        Ok(own) => head(own),
+        Err(fault) => self::fault(fault),
     }
-    say(number(judgment), place(judgment));
 }
 
 // Writes a judgment's number as one digit: 10 to 12 are a to c.
-pub fn digit(judgment: Judgment) {
+pub fn digit(judgment: Result<Head, Fault>) {
     match number(judgment) {
         10 => lines::say(b"a"),
         11 => lines::say(b"b"),

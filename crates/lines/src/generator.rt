@@ -13,10 +13,8 @@ fn letter(x: usize) -> u8 {
 // Fills `part` with the letters of the numbers after `seed`.
 pub fn scatter(part: &mut [u8], seed: usize) {
     let mut x = seed;
-    let mut i = 0;
-    while i < part.len() {
+    for place in part.iter_mut() {
         x = next(x);
-        part[i] = letter(x);
-        i += 1;
+        *place = letter(x);
     }
 }

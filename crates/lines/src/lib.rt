@@ -7,7 +7,5 @@ mod parts;
 mod words;
 
 pub use generator::scatter;
-pub use parts::{
-    byte, count, differ, line, long_room, part, part_mut, put, put_numbers, room, same,
-};
+pub use parts::{byte, count, differ, line, part, part_mut, put, put_numbers, room};
 pub use words::{checksum, decimal, letters, number, outcome, say, value};

@@ -1,5 +1,5 @@
 // Words, numbers and letters on standard output.
-use group::Answer;
+use group::Refusal;
 
 // Standard output's descriptor.
 const STDOUT: i32 = 1;
@@ -28,10 +28,8 @@ fn letter(letter: u8) {
 // Some words, and the letters after them.
 pub fn letters(words: &[u8], letters: &[u8]) {
     say(words);
-    let mut i = 0;
-    while i < letters.len() {
-        letter(letters[i]);
-        i += 1;
+    for letter in letters {
+        self::letter(*letter);
     }
 }
 
@@ -42,27 +40,15 @@ fn add(sum: usize, letter: u8) -> usize {
 
 // A number that stands for all letters of `letters`: it changes with any of them, and with their order.
 pub fn checksum(letters: &[u8]) -> usize {
-    let mut sum: usize = 0;
-    let mut i = 0;
-    while i < letters.len() {
-        sum = add(sum, letters[i]);
-        i += 1;
-    }
-    sum
+    letters.iter().fold(0, |sum, letter| add(sum, *letter))
 }
 
 // An answer's value; a refusal carries 0.
-pub fn value(answer: Answer) -> usize {
-    match answer {
-        Answer::Value(value) => value,
-        Answer::Refused(_) => 0,
-    }
+pub fn value(answer: Result<usize, Refusal>) -> usize {
+    answer.unwrap_or(0)
 }
 
 // An answer's value, or its refusal's number.
-pub fn outcome(answer: Answer) -> usize {
-    match answer {
-        Answer::Value(value) => value,
-        Answer::Refused(refusal) => group::refusal_number(refusal),
-    }
+pub fn outcome(answer: Result<usize, Refusal>) -> usize {
+    answer.unwrap_or_else(group::refusal_number)
 }

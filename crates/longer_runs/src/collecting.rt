@@ -7,12 +7,10 @@ use group::Group;
 fn keep(g: Group, node: usize, rank: usize, b: &[u8], c: &mut [u8], at: usize) -> usize {
     let packets = lines::part(b, 0, steps::held(g, node));
     let mut end = at;
-    let mut column = rank;
-    while column < 16 {
+    for column in rank..16 {
         let piece = store::pieces::piece(g, node, rank, column, packets);
         lines::put(c, end, piece);
         end = steps::after(end, piece.len());
-        column += 1;
     }
     end
 }
@@ -20,15 +18,10 @@ fn keep(g: Group, node: usize, rank: usize, b: &[u8], c: &mut [u8], at: usize) -
 // The same from C to their places in the collector's buffer in A.
 fn bring(g: Group, rank: usize, c: &[u8], at: usize, a: &mut [u8]) -> usize {
     let mut end = at;
-    let mut column = rank;
-    while column <= g.d {
-        if 16 <= column {
-            return end;
-        }
+    for column in rank..=g.d.min(15) {
         let to = lines::value(store::pieces::entry(g, rank, column));
         lines::put(a, to, lines::part(c, end, g.l));
         end = steps::after(end, g.l);
-        column += 1;
     }
     end
 }
@@ -36,21 +29,17 @@ fn bring(g: Group, rank: usize, c: &[u8], at: usize, a: &mut [u8]) -> usize {
 // The pieces of all ranks but the first, the last first.
 fn keep_all(g: Group, ids: &[usize], a: &mut [u8], b: &mut [u8], c: &mut [u8]) {
     let mut at = 0;
-    let mut rank = ids.len();
-    while 1 < rank {
+    for rank in (2..=ids.len()).rev() {
         let node = ids[rank - 1];
         steps::encode(g, node, a, b);
         at = keep(g, node, rank, b, c, at);
-        rank -= 1;
     }
 }
 
 fn bring_all(g: Group, ids: &[usize], c: &[u8], a: &mut [u8]) {
     let mut at = 0;
-    let mut rank = ids.len();
-    while 1 < rank {
+    for rank in (2..=ids.len()).rev() {
         at = bring(g, rank, c, at, a);
-        rank -= 1;
     }
 }
 
@@ -63,13 +52,11 @@ fn bring_first(g: Group, node: usize, b: &[u8], c: &mut [u8], a: &mut [u8]) {
 // The collector's buffer in A: the later ranks' pieces go there once the last node is encoded.
 fn collect(g: Group, ids: &[usize], a: &mut [u8], b: &mut [u8], c: &mut [u8]) {
     keep_all(g, ids, a, b, c);
-    if ids.len() == 0 {
-        return;
+    if let Some(first) = ids.first() {
+        steps::encode(g, *first, a, b);
+        bring_all(g, ids, c, a);
+        bring_first(g, *first, b, c, a);
     }
-    let node = ids[0];
-    steps::encode(g, node, a, b);
-    bring_all(g, ids, c, a);
-    bring_first(g, node, b, c, a);
 }
 
 // Recovers the file, in place in A.

@@ -8,8 +8,6 @@ mod repairing;
 mod steps;
 mod storing;
 
-ghost use Rattle.std.specs.Prelude.{◌≡◌, length};
-
 use group::Group;
 
 // A group and its length.
@@ -45,11 +43,9 @@ fn nights(
     b: &mut [u8],
     c: &mut [u8],
 ) {
-    let mut i = 0;
-    while i < lengths.len() {
-        let longer = group::of(g.n, g.k, g.d, lengths[i]);
+    for l in lengths {
+        let longer = group::of(g.n, g.k, g.d, *l);
         night(longer, ids, lost, helpers, a, b, c);
-        i += 1;
     }
 }
 
@@ -64,24 +60,12 @@ fn five_nodes(lengths: &[usize], a: &mut [u8], b: &mut [u8], c: &mut [u8]) {
     nights(lengths, g, &[5, 3, 2], 4, &[5, 3, 2, 1], a, b, c);
 }
 
-// Room for three of the longest sequences, and for two; both with some letters more.
-fn room_for_three() -> [u8; 3145792]
-    ensures { 3145792 ≡ length result }
-{
-    [0; 3145792]
-}
-
-fn room_for_two() -> [u8; 2097216]
-    ensures { 2097216 ≡ length result }
-{
-    [0; 2097216]
-}
-
-// A holds a file, a share or the collector's buffer, B a node's packets, and C pieces.
+// A holds a file, a share or the collector's buffer, B a node's packets, and C pieces: there is room for three of the longest sequences, and for two; both
+// with some letters more.
 fn main() {
-    let mut a = room_for_three();
-    let mut b = room_for_two();
-    let mut c = room_for_two();
+    let mut a = lines::room::<3145792>();
+    let mut b = lines::room::<2097216>();
+    let mut c = lines::room::<2097216>();
     three_nodes(
         &[4096, 4097, 65535, 65536, 1048576, 1048577],
         &mut a,

@@ -14,12 +14,9 @@ fn help(g: Group, lost: usize, helper: usize, rank: usize, b: &[u8], c: &mut [u8
 fn help_all(g: Group, lost: usize, helpers: &[usize], a: &mut [u8], b: &mut [u8], c: &mut [u8]) {
     let size = lines::value(lengths::repair_letters(g, lost));
     let mut at = 0;
-    let mut rank = 0;
-    while rank < helpers.len() {
-        let helper = helpers[rank];
-        rank += 1;
-        steps::encode(g, helper, a, b);
-        help(g, lost, helper, rank, b, c, at);
+    for (i, helper) in helpers.iter().enumerate() {
+        steps::encode(g, *helper, a, b);
+        help(g, lost, *helper, i + 1, b, c, at);
         at = steps::after(at, size);
     }
 }

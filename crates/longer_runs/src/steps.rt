@@ -1,8 +1,8 @@
 // What every step needs: how its outcome is written, and a node's packets.
-use group::{Answer, Group};
+use group::{Group, Refusal};
 
 // The step, its answer, and the number that stands for the letters that it left.
-pub fn told(words: &[u8], answer: Answer, letters: &[u8]) {
+pub fn told(words: &[u8], answer: Result<usize, Refusal>, letters: &[u8]) {
     lines::say(words);
     script::answer(answer);
     script::sum(letters);

@@ -2,10 +2,11 @@
 use crate::steps;
 use arriving::Arriving;
 use group::Group;
-use share::Judgment;
+use heads::Head;
+use share::Fault;
 
 // Some words and a judgment.
-fn judged(words: &[u8], judgment: Judgment) {
+fn judged(words: &[u8], judgment: Result<Head, Fault>) {
     lines::say(words);
     lines::say(b": ");
     judged_words::tell(judgment);

@@ -7,6 +7,7 @@ ghost use Rattle.matrix.specs.Matrix.{packets as product};
 ghost use Rattle.nodes.specs.Calls.{Encoded};
 
 use group::{Group, Refusal};
+use lengths::known::Member;
 use matrix::encoding::Encoding;
 
 // Fills `packets` with the d packets of `node`, letter for letter the matrix product of the file.
@@ -16,21 +17,21 @@ pub fn encode(g: Group, node: usize, file: &[u8], packets: &mut [u8]) -> Result<
     ensures { Encoded g node file.now packets.old packets.new result }
 {
     group_checks::node(g, node)?;
-    encode_exact(g, node, file, packets)
+    encode_exact(Member { g, node }, file, packets)
 }
 
 // The same for a node of a group in range: refusals 5 and 6.
-fn encode_exact(g: Group, node: usize, file: &[u8], packets: &mut [u8]) -> Result<usize, Refusal>
-    requires { NodeOf g node }
-    ensures { Encoded g node file.now packets.old packets.new result }
+fn encode_exact(of: Member, file: &[u8], packets: &mut [u8]) -> Result<usize, Refusal>
+    ensures { Encoded of.g of.node file.now packets.old packets.new result }
 {
     let table = shifts::all();
-    let size = lengths::known::widened_in(&table, g, node);
+    let g = of.g;
+    let size = of.widened_in(&table);
     let wanted_file = lengths::known::file(g);
     group_checks::lengths(file.len(), wanted_file, packets.len(), g.d * size)?;
     let encoding = Encoding {
         g,
-        node,
+        node: of.node,
         size,
         table: &table,
         file,

@@ -7,8 +7,8 @@ use script_line::Line;
 
 // Adds a number to the letter at an index; there is nothing to add to behind the end. The same again takes it back.
 fn add(letters: &mut [u8], at: usize, by: usize) {
-    if at < letters.len() {
-        letters[at] = letters[at] ^ (by % 256) as u8;
+    if let Some(letter) = letters.get_mut(at) {
+        *letter ^= (by % 256) as u8;
     }
 }
 

@@ -1,19 +1,18 @@
 // What is written of a report: its number, a sign for each of the sixteen nodes, and the place of what is wrong.
-use group::Check;
+use group::Refusal;
 use odd_one::{Node, Report, Standing};
 
 // The number of the refusal; 0 where there is none.
-fn number(check: Check) -> usize {
+fn number(check: Result<(), Refusal>) -> usize {
     match check {
-        Check::Fine => 0,
-        Check::Refused(refusal) => group::refusal_number(refusal),
+        Ok(()) => 0,
+        Err(refusal) => group::refusal_number(refusal),
     }
 }
 
 // The sign of a node: absent, agreeing, unknown or odd.
 fn sign(node: Node) {
-    let standing = node.standing;
-    match standing {
+    match node.standing {
         Standing::Absent => lines::say(b"."),
         Standing::Agreeing => lines::say(b"a"),
         Standing::Unknown => lines::say(b"?"),
@@ -23,38 +22,30 @@ fn sign(node: Node) {
 
 // The place of an odd node; the others have none.
 fn place(node: Node) {
-    let standing = node.standing;
-    if let Standing::Odd(place) = standing {
+    if let Standing::Odd(place) = node.standing {
         lines::number(b" at ", place);
     }
 }
 
 // The signs, node 1 first.
-fn signs(nodes: [Node; 16]) {
-    let mut i = 0;
-    while i < 16 {
-        let node = nodes[i];
-        sign(node);
-        i += 1;
+fn signs(nodes: &[Node]) {
+    for node in nodes {
+        sign(*node);
     }
 }
 
 // The places. Were two nodes odd, two would be seen.
-fn places(nodes: [Node; 16]) {
-    let mut i = 0;
-    while i < 16 {
-        let node = nodes[i];
-        place(node);
-        i += 1;
+fn places(nodes: &[Node]) {
+    for node in nodes {
+        place(*node);
     }
 }
 
 // All of it.
 pub fn report(report: Report) {
-    let check = report.check;
     let nodes = report.nodes;
-    lines::number(b": ", number(check));
+    lines::number(b": ", number(report.check));
     lines::say(b" ");
-    signs(nodes);
-    places(nodes);
+    signs(&nodes);
+    places(&nodes);
 }

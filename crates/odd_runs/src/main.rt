@@ -2,24 +2,22 @@
 // tools/odd_model.py makes the script and what must be written, from documents 01 and 02 (docs/SCHEME.md) alone and by elimination.
 #![tactic(auto)]
 
-mod told;
-mod turn;
+use script_line::Line;
 
-// Standard input's descriptor.
-const STDIN: i32 = 0;
+// 11 encodes a node from the file in A's slice.
+fn encode(line: Line, from: &[u8], into: &mut [u8]) {
+    script::answer(store::encoding::encode(line.group, line.first, from, into));
+}
 
-// Line by line. `found` is the room for the numbers of a line.
-fn main() {
-    let mut room = lines::room();
-    let mut a = lines::room();
-    let mut b = lines::room();
-    let mut found = [0usize; 32];
-    let count = io::read_full(STDIN, &mut room);
-    let text = &room[..count];
-    let mut at = 0;
-    while at < text.len() {
-        let line = script::next(text, at, &mut found, &mut a, &mut b);
-        turn::call(line, &found, &mut a, &mut b);
-        at = line.next;
+// 20 looks for the odd one of some nodes; any other line encodes.
+fn call(line: Line, found: &[usize; 32], from: &mut [u8], into: &mut [u8]) {
+    if line.operation == 20 {
+        odd_calls::call(line, found, from, into);
+    } else {
+        encode(line, from, into);
     }
+}
+
+fn main() {
+    script::of_one_part(call);
 }

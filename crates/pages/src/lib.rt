@@ -24,14 +24,10 @@ pub fn whole(room: &[u8], count: usize) -> usize
     if count < room.len() {
         return count;
     }
-    let mut end = count;
-    while 0 < end {
-        if room[end - 1] == b'\n' {
-            return end;
-        }
-        end -= 1;
+    match room[..count].iter().rposition(|byte| *byte == b'\n') {
+        Some(last) => last + 1,
+        None => count,
     }
-    count
 }
 
 // Carries the bytes of a page of `count` bytes from index `from` on to the front. The answer is how many these are.
@@ -39,10 +35,6 @@ pub fn carry(room: &mut [u8], from: usize, count: usize) -> usize
     requires { (from ≤ count) × (count ≤ length room.old) }
     ensures { result ≤ count }
 {
-    let mut i = 0;
-    while i < count - from {
-        room[i] = room[from + i];
-        i += 1;
-    }
-    i
+    room.copy_within(from..count, 0);
+    count - from
 }

@@ -6,6 +6,7 @@ ghost use Rattle.matrix.specs.Pieces.{Chosen};
 ghost use Rattle.present.specs.Steps.Places.{StartsAt, Present};
 
 use group::Group;
+use lengths::known::Member;
 
 // Nodes of a group that are present, at least k+2 of them, by falling ids: where each one's letters start, and all their letters one node after another.
 #[derive(Clone, Copy)]
@@ -26,7 +27,7 @@ pub fn starts(g: Group, ids: &[usize]) -> [usize; 17]
     let mut starts = [0usize; 17];
     let mut end = 0;
     for (v, id) in ids.iter().enumerate() {
-        end += lengths::known::node(g, *id);
+        end += Member { g, node: *id }.letters();
         starts[v + 1] = end;
     }
     starts

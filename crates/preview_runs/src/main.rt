@@ -2,23 +2,6 @@
 // the script and what must be written, from documents 01 and 02 (docs/SCHEME.md) alone and by elimination.
 #![tactic(auto)]
 
-mod turn;
-
-// Standard input's descriptor.
-const STDIN: i32 = 0;
-
-// Line by line. `found` is the room for the numbers of a line.
 fn main() {
-    let mut room = lines::room();
-    let mut a = lines::room();
-    let mut b = lines::room();
-    let mut found = [0usize; 32];
-    let count = io::read_full(STDIN, &mut room);
-    let text = &room[..count];
-    let mut at = 0;
-    while at < text.len() {
-        let line = script::next(text, at, &mut found, &mut a, &mut b);
-        turn::call(line, &found, &a, &mut b);
-        at = line.next;
-    }
+    script::of_one_part(|line, found, from, into| preview_calls::call(line, found, from, into));
 }

@@ -6,7 +6,9 @@
 #![tactic(auto)]
 
 mod memory;
+mod running;
 mod telling;
 
-pub use memory::{next, next_of_parts};
+pub use memory::{Parts, next};
+pub use running::{of_one_part, run};
 pub use telling::{answer, numbers, sum};

@@ -1,6 +1,6 @@
 // What is written behind a line. Each of these words is written by a function that does little else: what is proved of a literal grows
 // with all that is at hand beside it.
-use group::Answer;
+use group::Refusal;
 
 // A heading has nothing behind it.
 pub fn nothing() {
@@ -26,16 +26,14 @@ fn told(number: usize, value: usize) {
 }
 
 // An answer: its number in the table of document 01 (docs/SCHEME.md, 11), 0 where nothing is refused, and its value.
-pub fn answer(answer: Answer) {
+pub fn answer(answer: Result<usize, Refusal>) {
     told(group::answer_number(answer), lines::value(answer));
 }
 
 // Some words, and numbers after them.
 pub fn numbers(words: &[u8], numbers: &[usize]) {
     lines::say(words);
-    let mut i = 0;
-    while i < numbers.len() {
-        lines::number(b" ", numbers[i]);
-        i += 1;
+    for number in numbers {
+        lines::number(b" ", *number);
     }
 }

@@ -2,16 +2,15 @@
 // and its length, a slice of the memory B in the same way, and what the operation wants besides. Words between them are for the reader.
 #![tactic(auto)]
 
-ghost use Rattle.std.specs.Prelude.{◌≡◌, ◌+◌, ◌≤◌, ◌<◌, length};
+ghost use Rattle.std.specs.Prelude.{◌≡◌, ◌+◌, ◌≤◌, ◌<◌, IfSome, length};
 
 use group::Group;
 
-// How far a line is read: the index of the number that comes next, whether a digit of it was seen, and what its digits are worth so far.
+// How far a line is read: the index of the number that comes next, and what its digits are worth so far, once one was seen.
 #[derive(Clone, Copy)]
 pub struct Place {
     pub next: usize,
-    pub inside: bool,
-    pub value: usize,
+    pub reading: Option<usize>,
 }
 
 // What a line says. `own` is the first number after the two slices; a call that is handed a group has it there, and its other numbers
@@ -33,15 +32,14 @@ pub struct Line {
     pub third: usize,
 }
 
-// A digit's value; 10 for any other byte.
-fn digit(byte: u8) -> usize {
-    if byte < b'0' {
-        return 10;
+// A digit's value.
+fn digit(byte: u8) -> Option<usize>
+    ensures { IfSome result (λ d. d < 10) }
+{
+    match byte {
+        b'0'..=b'9' => Some((byte - b'0') as usize),
+        _ => None,
     }
-    if b'9' < byte {
-        return 10;
-    }
-    (byte - b'0') as usize
 }
 
 // A number with one digit more. Of a number that no call could want, the first digits are passed over.
@@ -54,25 +52,23 @@ fn longer(number: usize, digit: usize) -> usize
 // One byte more: a digit goes to its number, any other byte ends a number. Of more than 32 numbers the others are passed over.
 fn step(place: Place, byte: u8, found: &mut [usize; 32]) -> Place {
     let next = place.next;
-    let digit = digit(byte);
-    if digit < 10 {
+    if let Some(digit) = digit(byte) {
+        let number = place.reading.unwrap_or(0);
         return Place {
             next,
-            inside: true,
-            value: longer(place.value, digit),
+            reading: Some(longer(number, digit)),
         };
     }
-    if place.inside {
-        if next < 32 {
-            found[next] = place.value;
-            return Place {
+    match place.reading {
+        Some(number) if next < 32 => {
+            found[next] = number;
+            Place {
                 next: next + 1,
-                inside: false,
-                value: 0,
-            };
+                reading: None,
+            }
         }
+        _ => place,
     }
-    place
 }
 
 // The numbers by their names.
@@ -103,28 +99,23 @@ pub fn read(text: &[u8], from: usize, found: &mut [usize; 32]) -> Line
     ensures { (from < result.next) × (result.next ≤ length text.now + 1) }
 {
     *found = [0; 32];
+    let rest = &text[from..];
+    let length = rest
+        .iter()
+        .position(|byte| *byte == b'\n')
+        .unwrap_or(rest.len());
     let mut place = Place {
         next: 0,
-        inside: false,
-        value: 0,
+        reading: None,
     };
-    let mut end = from;
-    while end < text.len() {
-        let byte = text[end];
-        if byte == b'\n' {
-            break;
-        }
-        place = step(place, byte, found);
-        end += 1;
+    for byte in &rest[..length] {
+        place = step(place, *byte, found);
     }
     place = step(place, b'\n', found);
-    named(end - from, end + 1, place.next, found)
+    named(length, from + length + 1, place.next, found)
 }
 
 // The numbers from index `from` on, of the first so many.
 pub fn rest<'a>(found: &'a [usize; 32], from: usize, count: usize) -> &'a [usize] {
-    let all = &found[..];
-    let end = letters::lesser(count, 32);
-    let start = letters::lesser(from, end);
-    &all[start..end]
+    found[..count.min(32)].get(from..).unwrap_or(&[])
 }

@@ -7,13 +7,9 @@ pub fn every_byte(share: &mut [u8], at: usize) {
         return;
     }
     let own = share[at];
-    let mut run = judged_words::start();
-    let mut byte: usize = 0;
-    while byte < 256 {
-        share[at] = byte as u8;
-        run = judged_words::next(run, byte, false, share::judge(share));
-        byte += 1;
-    }
-    share[at] = own;
-    judged_words::end(run, 255);
+    judged_words::sweep(|byte| {
+        lines::put(share, at, &[byte]);
+        Some(share::judge(share))
+    });
+    lines::put(share, at, &[own]);
 }

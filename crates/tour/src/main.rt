@@ -7,24 +7,17 @@ fn rebuild(text: &[u8], file: &[u8], disks: &mut [u8]) {
     disks::tell_judged(text, 3, disks::judge(2, 146, disks));
     let mut packets = [0u8; 76];
     let count = rescue::rebuild(disks, &mut packets);
-    marks::tell(text, 4, 76, file.len(), count, 0);
+    marks::tell(text, 4, &[76, file.len(), count]);
     disks::write(2, &packets, disks);
-    let judged = disks::judge(2, 146, disks);
-    marks::tell(
-        text,
-        5,
-        disks::differs(2, file, &packets),
-        judged.choice,
-        0,
-        0,
-    );
+    let choice = disks::choice(disks::judge(2, 146, disks));
+    marks::tell(text, 5, &[disks::differs(2, file, &packets), choice]);
 }
 
 // The batch is recovered and compared.
 fn recover(text: &[u8], file: &[u8], disks: &[u8]) {
     let mut batch = [0u8; 144];
-    marks::tell(text, 6, 144, rescue::recover(disks, &mut batch), 0, 0);
-    marks::tell(text, 7, lines::differ(&batch, file), 0, 0, 0);
+    marks::tell(text, 6, &[144, rescue::recover(disks, &mut batch)]);
+    marks::tell(text, 7, &[lines::differ(&batch, file)]);
 }
 
 fn night(text: &[u8]) {

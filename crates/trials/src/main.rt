@@ -5,25 +5,26 @@
 use arriving::Arriving;
 
 // Page by page: reads on behind the bytes of a cut line that are kept at the front of the room, and runs the whole lines. A page that doesn't fill the
-// room is the last. A proved loop has to end, and nothing says that an input does: so the loop counts its pages down, from a number that no run uses up.
+// room is the last. A proved loop has to end, and nothing says that an input does: so the loop counts its pages, up to a number that no run uses up.
 fn run(room: &mut [u8], a: &mut [u8], b: &mut [u8]) {
     let mut state = Arriving::start();
     let mut kept = 0;
-    let mut ended = false;
-    let mut left = u64::MAX;
-    while left > 0 && !ended {
+    for _ in 0..u64::MAX {
         let count = pages::more(room, kept);
         let end = pages::whole(room, count);
         state = all_calls::run(lines::part(room, 0, end), state, a, b);
         kept = pages::carry(room, end, count);
-        ended = count < room.len();
-        left -= 1;
+        if count < room.len() {
+            break;
+        }
     }
 }
 
+// The memories of a script of long sequences have more than the 3,145,728 letters of the longest file of three sequences. Two of them fit on the stack,
+// which has 8 MiB.
 fn main() {
     let mut room = io::large_buffer();
-    let mut a = lines::long_room();
-    let mut b = lines::long_room();
+    let mut a = lines::room::<3200000>();
+    let mut b = lines::room::<3200000>();
     run(&mut room, &mut a, &mut b);
 }

@@ -2,15 +2,12 @@
 // numbers, longer sequences, and the two sides of 65,536 bytes. The file stdout has what it must write, by hand from that page.
 #![tactic(auto)]
 
-// Standard output's descriptor.
-const STDOUT: i32 = 1;
-
 // Some words, and after them the line for these bytes.
 fn show(words: &[u8], bytes: &[u8]) {
     lines::say(words);
     let mut line = [0u8; 192];
     let count = verdict::line(bytes, &mut line);
-    io::write_all(STDOUT, &line[..count]);
+    lines::say(&line[..count]);
 }
 
 // A share with one zero more.
@@ -145,9 +142,9 @@ fn large(packets: &[u8], room: &mut [u8]) {
 }
 
 fn main() {
-    let mut packets = lines::room();
-    let mut share = lines::room();
-    let zeros = lines::room();
+    let mut packets = lines::room::<600000>();
+    let mut share = lines::room::<600000>();
+    let zeros = lines::room::<600000>();
     examples();
     preview();
     lines::scatter(&mut packets, 1);

@@ -9,11 +9,11 @@ use Rattle.present.proofs.starts.Goals as goal
 pub loop-v-init : goal.loop-v-init
 loop-v-init c = (refl, sym (letters_none _ _), λ i h. let first : i ≡ 0 = omega arith in rw first (sym (letters_none _ _)))
 
-pub node-end-requires : goal.node-end-requires
-node-end-requires c = node_here _ _ c.requires c.loop-v.v (omega arith)
+pub invariant_of-letters : goal.invariant_of-letters
+invariant_of-letters c = record { of = node_here _ _ c.requires c.loop-v.v (omega arith) }
 
 pub overflow_add-end : goal.overflow_add-end
-overflow_add-end c = omega (arith, end_small _ _ c.requires c.loop-v.v c.loop-v.end _ (omega arith) c.loop-v.invariant.1 c.node-end.ensures)
+overflow_add-end c = omega (arith, end_small _ _ c.requires c.loop-v.v c.loop-v.end _ (omega arith) c.loop-v.invariant.1 c.letters-end.ensures)
 
 pub bounds-starts-v : goal.bounds-starts-v
 bounds-starts-v c = omega (arith, few_ids _ _ c.requires, c.requires.group.n-high)
@@ -22,8 +22,8 @@ pub loop-v-preserved : goal.loop-v-preserved
 loop-v-preserved c =
     let l = c.loop-v in (
       simp length-set l.invariant.0,
-      end_next _ _ c.requires l.v l.end _ (omega arith) l.invariant.1 c.node-end.ensures,
-      starts_more _ _ c.requires l.v l.end _ (omega arith) l.invariant.1 c.node-end.ensures l.starts l.invariant.0 l.invariant.2,
+      end_next _ _ c.requires l.v l.end _ (omega arith) l.invariant.1 c.letters-end.ensures,
+      starts_more _ _ c.requires l.v l.end _ (omega arith) l.invariant.1 c.letters-end.ensures l.starts l.invariant.0 l.invariant.2,
     )
 
 pub returns : goal.returns

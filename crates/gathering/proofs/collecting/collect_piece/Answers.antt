@@ -25,8 +25,11 @@ offset_bounds-nodes-rank-2 c = omega (arith, read_high c.args.nodes.now.g c.args
 pub bounds-nodes-rank-2 : goal.bounds-nodes-rank-2
 bounds-nodes-rank-2 c = omega (arith, c.args.nodes.now.placed.size, read_high c.args.nodes.now.g c.args.nodes.now.ids.now c.args.nodes.now.packets.now c.args.without c.args.nodes.now.present c.args.v c.args.u c.requires.1 _ c.args.nodes.now.placed c.rank-rank.result c.rank-rank.ensures, few_ids _ _ c.args.nodes.now.present.chosen, c.args.nodes.now.present.chosen.group.n-high)
 
+pub invariant_of-packet_start : goal.invariant_of-packet_start
+invariant_of-packet_start c = record { of = read_node c.args.nodes.now.g c.args.nodes.now.ids.now c.args.nodes.now.packets.now c.args.without c.args.nodes.now.present c.args.v c.args.u c.requires.1 _ c.args.nodes.now.placed c.rank-rank.result c.rank-rank.ensures }
+
 pub packet_start-requires : goal.packet_start-requires
-packet_start-requires c = (read_node c.args.nodes.now.g c.args.nodes.now.ids.now c.args.nodes.now.packets.now c.args.without c.args.nodes.now.present c.args.v c.args.u c.requires.1 _ c.args.nodes.now.placed c.rank-rank.result c.rank-rank.ensures, omega (arith, c.requires.1.row, c.requires.1.within), c.requires.1.column)
+packet_start-requires c = (omega (arith, c.requires.1.row, c.requires.1.within), c.requires.1.column)
 
 pub overflow_add-start : goal.overflow_add-start
 overflow_add-start c = omega (arith, read_small c.args.nodes.now.g c.args.nodes.now.ids.now c.args.nodes.now.packets.now c.args.without c.args.nodes.now.present c.args.v c.args.u c.requires.1 _ c.args.nodes.now.placed c.rank-rank.result c.rank-rank.ensures c.packet_start.result (t _ _) c.packet_start.ensures refl)
