@@ -23,5 +23,5 @@ pub fn pull_blocks(senders: &Senders, v: usize, w: usize, wide: usize, buffer: &
         let moved = column_runs::moved_by(senders, w, u);
         starts[u - v] = entries::free_start(g, v, u) + wide - moved;
     }
-    laid_sums_within::lay_within(buffer, to, &starts, 1 + g.d - v, g.l - wide);
+    laid_sums_within::lay_within(buffer, to, &starts[..1 + g.d - v], g.l - wide);
 }

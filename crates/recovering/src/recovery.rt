@@ -5,6 +5,7 @@ ghost use Rattle.recovering.specs.Calls.{readers_refusal, Recovered};
 ghost use Rattle.recovering.specs.Steps.Checked.{Readers};
 
 use group::{Group, Refusal};
+use matrix::senders::Senders;
 use sequences::rows::{self, Tabled};
 
 // Turns the pieces in `buffer`, laid out as the file, into the file, in place: the one file that has those pieces, for any letters whatever.
@@ -36,7 +37,11 @@ fn recover_exact(g: Group, ids: &[usize], buffer: &mut [u8]) -> Result<usize, Re
         return Err(Refusal::Input);
     }
     let table = shifts::all();
-    let rows = rows::of(&Tabled { table: &table }, ids);
-    solved_columns::recover_columns(g, ids, &rows, buffer);
-    Ok(file_count::of_file(g, ids, &rows, buffer))
+    let senders = Senders {
+        g,
+        ids,
+        rows: &rows::of(&Tabled { table: &table }, ids),
+    };
+    solved_columns::recover_columns(&senders, buffer);
+    Ok(file_count::of_file(&senders, buffer))
 }

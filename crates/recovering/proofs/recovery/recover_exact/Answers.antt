@@ -13,15 +13,15 @@ returns-then-buffer-wanted c =
     let s = c in
     recover_refused _ _ _ _ (sym (simp (s.requires.fine, ne_eqb _ _ (λ e. c.if-buffer-wanted.true (e ∙ sym c.file-wanted.ensures)))))
 
-pub of-rows-requires : goal.of-rows-requires
-of-rows-requires c =
-    let s = c in
-    known _ _ _ s.requires.chosen (omega arith)
+pub of-requires : goal.of-requires
+of-requires c = known _ _ _ c.requires.chosen (omega arith)
+
+pub invariant_of-senders : goal.invariant_of-senders
+invariant_of-senders c = record { chosen = c.requires.chosen; shifts = c.of.ensures }
 
 pub recover_columns-requires : goal.recover_columns-requires
 recover_columns-requires c =
-    let s = c in
-    (record { chosen = s.requires.chosen; long = c.if-buffer-wanted.false ∙ c.file-wanted.ensures }, c.of-rows.ensures)
+    c.if-buffer-wanted.false ∙ c.file-wanted.ensures
 
 pub returns : goal.returns
 unfolding recover_refusal
