@@ -4,79 +4,56 @@
 ghost use Rattle.std.specs.Prelude.{◌≡◌, ◌+◌, ◌≤◌, length};
 ghost use Rattle.letters.specs.Algebra.{xors};
 ghost use Rattle.shifts.specs.Rule.{t};
-ghost use Rattle.shifts.specs.Table.{Table};
-ghost use Rattle.group.specs.Ranges.{NodeOf};
-ghost use Rattle.lengths.specs.Lengths.{file_letters, node_letters, packet_length};
+ghost use Rattle.lengths.specs.Lengths.{node_letters, packet_length};
 ghost use Rattle.matrix.specs.Matrix.{entry_start, matrix, packet, packets as product};
 ghost use Rattle.sequences.specs.Steps.Windows.{Adds, Zeros};
 
-use group::Group;
+use matrix::encoding::Encoding;
 use matrix::entries;
 use sequences::windows;
 
-// The d packets, one after another, all of `size` letters: cleared, and then each entry added.
-pub fn add_packets(
-    g: Group,
-    node: usize,
-    size: usize,
-    table: &[u8],
-    file: &[u8],
-    packets: &mut [u8],
-)
-    requires table { Table table.now }
-    requires node { (NodeOf g node) × (size ≡ packet_length g node 1) }
-    requires lengths { (length file.now ≡ file_letters g) × (length packets.old ≡ node_letters g node) }
-    ensures { packets.new ≡ product xors g file.now node }
+// The d packets, one after another: cleared, and then each entry added.
+pub fn add_packets(encoding: &Encoding, packets: &mut [u8])
+    requires { length packets.old ≡ node_letters encoding.now.g encoding.now.node }
+    ensures { packets.new ≡ product xors encoding.now.g encoding.now.file.now encoding.now.node }
 {
     windows::clear(packets);
     let mut end = 0;
-    let mut j = 0;
-    while j < g.d {
-        j += 1;
+    for j in 0..encoding.g.d {
         let start = end;
-        end = start + size;
-        add_packet(g, node, j, table, file, &mut packets[start..end]);
+        end = start + encoding.size;
+        add_packet(encoding, j + 1, &mut packets[start..end]);
     }
 }
 
 // Packet `column` of the node, from zeros: the sum of the column's d entries, each moved right by the node's shift of its row.
-fn add_packet(g: Group, node: usize, column: usize, table: &[u8], file: &[u8], letters: &mut [u8])
-    requires table { Table table.now }
-    requires node { (NodeOf g node) × (1 ≤ column) × (column ≤ g.d) }
-    requires lengths { (length file.now ≡ file_letters g) × (length letters.old ≡ packet_length g node column) × Zeros letters.old }
-    ensures { letters.new ≡ packet xors g file.now node column }
+fn add_packet(encoding: &Encoding, column: usize, letters: &mut [u8])
+    requires column { (1 ≤ column) × (column ≤ encoding.now.g.d) }
+    requires letters { (length letters.old ≡ packet_length encoding.now.g encoding.now.node column) × Zeros letters.old }
+    ensures { letters.new ≡ packet xors encoding.now.g encoding.now.file.now encoding.now.node column }
 {
+    let g = encoding.g;
     let mut start = entries::free_start(g, 1, column);
-    let mut row = 0;
-    while row < g.d {
-        row += 1;
-        add_entry(g, node, column, row, start, table, file, letters);
+    for above in 0..g.d {
+        let row = above + 1;
+        add_entry(encoding, column, row, start, letters);
         start = entries::next_start(g, row, column, start);
     }
 }
 
 // Adds entry (row, column) of the matrix, which starts at index `start` of the file, moved right by t(node, row), to a packet. In the zero corner there is nothing to add.
-fn add_entry(
-    g: Group,
-    node: usize,
-    column: usize,
-    row: usize,
-    start: usize,
-    table: &[u8],
-    file: &[u8],
-    letters: &mut [u8],
-)
-    requires table { Table table.now }
-    requires node { (NodeOf g node) × (1 ≤ column) × (column ≤ g.d) × (1 ≤ row) × (row ≤ g.d) × (start ≡ entry_start g row column) }
-    requires lengths { (length file.now ≡ file_letters g) × (length letters.old ≡ packet_length g node column) }
-    ensures { Adds (matrix xors g file.now row column) 0 (t node row) letters.old letters.new }
+fn add_entry(encoding: &Encoding, column: usize, row: usize, start: usize, letters: &mut [u8])
+    requires entry { let e = encoding.now in (1 ≤ column) × (column ≤ e.g.d) × (1 ≤ row) × (row ≤ e.g.d) × (start ≡ entry_start e.g row column) }
+    requires letters { length letters.old ≡ packet_length encoding.now.g encoding.now.node column }
+    ensures { let e = encoding.now in Adds (matrix xors e.g e.file.now row column) 0 (t e.node row) letters.old letters.new }
 {
+    let g = encoding.g;
     if g.k < column {
         if g.k < row {
             return;
         }
     }
     let end = start + g.l;
-    let shift = shifts::shift_in(table, node, row);
-    adding::add_run(letters, shift, &file[start..end]);
+    let shift = shifts::shift_in(encoding.table, encoding.node, row);
+    adding::add_run(letters, shift, &encoding.file[start..end]);
 }

@@ -14,11 +14,7 @@ pub fn taken(from: &[u8], start: usize, count: usize) -> [u8; WIDEST]
     ensures { take count result ≡ take count (drop start from.now) }
 {
     let mut block = [0u8; WIDEST];
-    let mut j = 0;
-    while j < count {
-        block[j] = from[start + j];
-        j += 1;
-    }
+    block[..count].copy_from_slice(&from[start..start + count]);
     block
 }
 
@@ -27,10 +23,8 @@ pub fn add_letters(into: &mut [u8], at: usize, run: &[u8], start: usize, count: 
     requires { (start + count ≤ length run.now) × (at + count ≤ length into.old) }
     ensures { into.new ≡ added xors into.old at (take count (drop start run.now)) }
 {
-    let mut i = 0;
-    while i < count {
+    for i in 0..count {
         into[at + i] ^= run[start + i];
-        i += 1;
     }
 }
 
@@ -79,9 +73,8 @@ pub fn add_blocks(into: &mut [u8], at: usize, run: &[u8], start: usize)
     requires { (start ≡ left_over (length run.now) widest_block) × (at + length run.now ≤ length into.old) }
     ensures { into.new ≡ added xors into.old (at + start) (drop start run.now) }
 {
-    let mut i = start;
-    while i < run.len() {
+    for b in 0..run.len() / WIDEST {
+        let i = start + b * WIDEST;
         add_block(into, at + i, run, i, WIDEST);
-        i += WIDEST;
     }
 }

@@ -15,7 +15,6 @@ pub fn add_within(buffer: &mut [u8], to: usize, from: usize, count: usize) -> us
     ensures letters { buffer.new ≡ added xors buffer.old to (take count (drop from buffer.old)) }
     ensures count { result ≡ count }
 {
-    let i = blocks::add_rests(buffer, to, from, count);
-    blocks::add_blocks(buffer, to + i, from + i, count - i);
-    count
+    let (earlier, later) = buffer.split_at_mut(from);
+    adding::add_run(earlier, to, &later[..count])
 }

@@ -1,3 +1,2 @@
--- The laws of letters in blocks, and a share from its parts.
-pub mod InBlocks
+-- A share from its parts.
 pub mod FromParts

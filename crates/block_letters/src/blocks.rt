@@ -13,11 +13,7 @@ fn block_at(from: &[u8], start: usize) -> [u8; sizes::BLOCK_LETTERS]
     ensures { TakenFrom from.now start block_letters result }
 {
     let mut block = [0u8; sizes::BLOCK_LETTERS];
-    let mut i = 0;
-    while i < sizes::BLOCK_LETTERS {
-        block[i] = from[start + i];
-        i += 1;
-    }
+    block.copy_from_slice(&from[start..start + sizes::BLOCK_LETTERS]);
     block
 }
 

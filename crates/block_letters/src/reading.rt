@@ -13,15 +13,13 @@ pub fn copy_letters(front: usize, share: &[u8], packets: &mut [u8])
     ensures { Copied front share.now (length packets.old) packets.new }
 {
     let full = packets.len() / sizes::BLOCK_LETTERS;
-    let mut r = 0;
-    while r < full {
+    for r in 0..full {
         blocks::copy_block(
             share,
             front + 1 + r * sizes::BLOCK_SIZE,
             packets,
             r * sizes::BLOCK_LETTERS,
         );
-        r += 1;
     }
     let done = full * sizes::BLOCK_LETTERS;
     let left = packets.len() - done;

@@ -14,12 +14,10 @@ pub fn put_full_blocks(front: usize, packets: &[u8], share: &mut [u8])
     ensures { Laid share.old share.new front (front + length packets.now / block_letters * block_size) (blocks_byte front packets.now) }
 {
     let full = packets.len() / sizes::BLOCK_LETTERS;
-    let mut r = 0;
-    while r < full {
+    for r in 0..full {
         let at = front + r * sizes::BLOCK_SIZE;
-        share[at] = sizes::KIND_FULL;
+        share[at] = sizes::RecordKind::FullBlock as u8;
         blocks::copy_block(packets, r * sizes::BLOCK_LETTERS, share, at + 1);
-        r += 1;
     }
 }
 
@@ -34,7 +32,7 @@ pub fn put_last_block(front: usize, packets: &[u8], share: &mut [u8])
         return;
     }
     let at = front + full * sizes::BLOCK_SIZE;
-    share[at] = sizes::KIND_LAST;
+    share[at] = sizes::RecordKind::LastBlock as u8;
     moving::copy(packets, full * sizes::BLOCK_LETTERS, share, at + 1, left);
     moving::clear(share, at + 1 + left, at + sizes::BLOCK_SIZE);
 }
@@ -45,9 +43,7 @@ pub fn put_end(front: usize, letters: usize, share: &mut [u8])
     ensures { Laid share.old share.new (front + blocks letters * block_size) (size_for front letters) (λ p. get_or (end_record letters) (p - (front + blocks letters * block_size)) 0) }
 {
     let start = front + sizes::blocks_of(letters) * sizes::BLOCK_SIZE;
-    let mut i = 0;
-    while i < sizes::END_SIZE {
+    for i in 0..sizes::END_SIZE {
         share[start + i] = sizes::end_byte(letters, i);
-        i += 1;
     }
 }

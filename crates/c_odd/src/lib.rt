@@ -40,12 +40,9 @@ fn put(nodes: [Node; 16], report: &mut [usize])
     requires { length report.old ≡ 32 }
     ensures { report.new ≡ report_numbers nodes }
 {
-    let mut i = 0;
-    while i < 16 {
-        let node = nodes[i];
-        report[i + i] = state(node);
-        report[i + i + 1] = place(node);
-        i += 1;
+    for i in 0..16 {
+        report[i + i] = state(nodes[i]);
+        report[i + i + 1] = place(nodes[i]);
     }
 }
 

@@ -14,6 +14,7 @@ use Rattle.letters.proofs.Sums.{sum_same, sum_more, sum_none_terms}
 use Rattle.system.proofs.System.{sequence_inside}
 use Rattle.group.specs.declared.Group.{Group}
 use Rattle.lengths.specs.Lengths.{file_letters}
+use Rattle.matrix.specs.declared.senders.Senders.{Senders}
 use Rattle.matrix.specs.Matrix.{matrix, entry_number}
 use Rattle.matrix.proofs.Columns.{before_apart, entry_fits, entry_from_one}
 use Rattle.matrix.proofs.Product.{corner, free, entries}
@@ -139,3 +140,7 @@ module _ (g : Group) (ids rows : List ℕ) (v w : ℕ) (e : Entry g ids rows v w
   entry_pulled wide buffer mid after h first rest =
       grown_on g v w wide g.l (from_next g ids buffer v w (g.d - v)) (from_next g ids mid v w (g.d - v)) buffer mid after h first rest
       (same_next g ids v buffer mid (later_kept 0 wide (from_next g ids buffer v w (g.d - v)) buffer mid first) w)
+
+-- an entry of the chosen nodes
+pub entry_of : (s : Senders) (v w : ℕ) → 1 ≤ w → w ≤ v → v ≤ s.g.k → Entry s.g s.ids.now s.rows.now v w
+entry_of s v w row upper low = record { chosen = s.chosen; shifts = s.shifts; row = row; upper = upper; low = low }

@@ -17,7 +17,8 @@ use Rattle.matrix.specs.Matrix.{packet, packets as product}
 use Rattle.matrix.specs.Steps.Starts.{StartsOf}
 use Rattle.matrix.proofs.Product.{packets_at, packet_last}
 use Rattle.laid_packets.specs.Steps.Rows.{RowsUsed}
-use Rattle.laid_packets.proofs.Columns.{laid_packet}
+use Rattle.sequences.proofs.FirstRuns.{first, first_sum}
+use Rattle.laid_packets.proofs.Columns.{entry_runs, laid_packet}
 use Rattle.matching.specs.Same.{SameTo, SameFor}
 use Rattle.matching_windows.specs.Windows.{seen_letter}
 use Rattle.matching_windows.proofs.Parts.{same_by, ends_in_part, whole_part}
@@ -48,12 +49,18 @@ module _ (g : Group) (node column : ℕ) (n : NodeOf g node) (lc : 1 ≤ column)
       laid_packet g node column n lc hc file starts shifts rows long s w used seen seen long_seen
       (record { same_length = refl; summed = record { sums = λ q h. seen_at q (omega (arith, long_seen)) } })
 
+  -- and so it is where the starts are cut off behind the last that is used
+  cut_letter : (q : ℕ) → seen_letter file (first rows starts) shifts (length (first rows starts)) g.l 0 q ≡ seen_letter file starts shifts rows g.l 0 q
+  unfolding seen_letter
+  cut_letter q = first_sum starts shifts rows g.l (entry_runs g node column n lc hc file starts shifts rows long s w used).inside.many file (q + 1 + 0)
+
   pub packet_compared :
-      (held : List ℕ) (m : ℕ) → length held ≡ packet_length g node column → SameFor held (seen_letter file starts shifts rows g.l 0) m
+      (held : List ℕ) (m : ℕ) → length held ≡ packet_length g node column
+      → SameFor held (seen_letter file (first rows starts) shifts (length (first rows starts)) g.l 0) m
       → SameFor held (λ q. get_or (packet xors g file node column) q 0) m
   packet_compared held m size c =
-      same_by held (seen_letter file starts shifts rows g.l 0) (λ q. get_or (packet xors g file node column) q 0) m
-      (λ q h. sym (seen_at q (omega arith)) ∙ ap (λ xs. get_or xs q 0) seen_packet) c
+      same_by held (seen_letter file (first rows starts) shifts (length (first rows starts)) g.l 0) (λ q. get_or (packet xors g file node column) q 0) m
+      (λ q h. cut_letter q ∙ sym (seen_at q (omega arith)) ∙ ap (λ xs. get_or xs q 0) seen_packet) c
 
 -- packets one after another
 module _ (g : Group) (node : ℕ) (n : NodeOf g node) (file held : List ℕ) (j start size m : ℕ) (last : j + 1 ≤ g.d) (long : length held ≡ node_letters g node)

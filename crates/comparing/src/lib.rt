@@ -11,9 +11,12 @@ ghost use Rattle.matrix.specs.Matrix.{packet, packets as product};
 ghost use Rattle.matching.specs.Same.{SameFor};
 
 use group::Group;
+use lengths::known::Member;
 use matching_windows as windows;
+use matrix::encoding::Encoding;
 use matrix::entries;
-use sequences::rows;
+use sequences::moved::Moved;
+use sequences::rows::{self, Tabled};
 
 // How many letters of what the node holds, from the front and through all its packets, are those that the file gives it.
 pub fn right_letters(g: Group, node: usize, file: &[u8], held: &[u8]) -> usize
@@ -22,32 +25,29 @@ pub fn right_letters(g: Group, node: usize, file: &[u8], held: &[u8]) -> usize
     ensures { SameFor held.now (λ q. get_or (product xors g file.now node) q 0) result }
 {
     let table = shifts::all();
-    let size = lengths::known::widened_in(&table, g, node);
-    let shifts = rows::shift_row(&table, node);
-    right_packets(g, node, size, &shifts, file, held)
+    let encoding = Encoding {
+        g,
+        node,
+        size: Member { g, node }.widened_in(&table),
+        table: &table,
+        file,
+    };
+    let shifts = rows::row(&Tabled { table: &table }, node);
+    right_packets(&encoding, &shifts, held)
 }
 
-// Packet after packet, all of `size` letters, up to the first that isn't right.
-fn right_packets(
-    g: Group,
-    node: usize,
-    size: usize,
-    shifts: &[usize],
-    file: &[u8],
-    held: &[u8],
-) -> usize
-    requires shifts { RowOf t node shifts.now }
-    requires node { (NodeOf g node) × (size ≡ packet_length g node 1) }
-    requires lengths { (length file.now ≡ file_letters g) × (length held.now ≡ node_letters g node) }
-    ensures { SameFor held.now (λ q. get_or (product xors g file.now node) q 0) result }
+// Packet after packet, up to the first that isn't right.
+fn right_packets(encoding: &Encoding, shifts: &[usize], held: &[u8]) -> usize
+    requires shifts { RowOf t encoding.now.node shifts.now }
+    requires held { length held.now ≡ node_letters encoding.now.g encoding.now.node }
+    ensures { let e = encoding.now in SameFor held.now (λ q. get_or (product xors e.g e.file.now e.node) q 0) result }
 {
+    let size = encoding.size;
     let mut end = 0;
-    let mut j = 0;
-    while j < g.d {
-        j += 1;
+    for j in 0..encoding.g.d {
         let start = end;
         end = start + size;
-        let right = right_packet(g, node, j, size, shifts, file, &held[start..end]);
+        let right = right_packet(encoding, j + 1, shifts, &held[start..end]);
         if right < size {
             return start + right;
         }
@@ -57,25 +57,24 @@ fn right_packets(
 
 // The letters of packet `column`. Where the widest shift leaves at least a block to all entries, they are compared in blocks there; else every entry is a run that is added, as in
 // encoding.
-fn right_packet(
-    g: Group,
-    node: usize,
-    column: usize,
-    size: usize,
-    shifts: &[usize],
-    file: &[u8],
-    held: &[u8],
-) -> usize
-    requires shifts { RowOf t node shifts.now }
-    requires node { (NodeOf g node) × (1 ≤ column) × (column ≤ g.d) × (size ≡ packet_length g node column) }
-    requires lengths { (length file.now ≡ file_letters g) × (length held.now ≡ packet_length g node column) }
-    ensures { SameFor held.now (λ q. get_or (packet xors g file.now node column) q 0) result }
+fn right_packet(encoding: &Encoding, column: usize, shifts: &[usize], held: &[u8]) -> usize
+    requires shifts { RowOf t encoding.now.node shifts.now }
+    requires column { (1 ≤ column) × (column ≤ encoding.now.g.d) }
+    requires held { length held.now ≡ packet_length encoding.now.g encoding.now.node column }
+    ensures { let e = encoding.now in SameFor held.now (λ q. get_or (packet xors e.g e.file.now e.node column) q 0) result }
 {
+    let g = encoding.g;
     let starts = entries::column_starts(g, column);
     let rows = laid_packets::rows_used(g, column);
-    let widest = size - g.l;
+    let runs = Moved {
+        from: encoding.file,
+        size: g.l,
+        starts: &starts[0..rows],
+        leads: shifts,
+    };
+    let widest = encoding.size - g.l;
     if g.l < widest + sums::BLOCK {
-        return windows::seen(held, file, g.l, &starts, shifts, rows, 0);
+        return windows::seen(held, &runs, 0);
     }
-    windows::same(held, file, g.l, &starts, shifts, rows, widest, g.l)
+    windows::same(held, &runs, widest, g.l)
 }

@@ -4,17 +4,23 @@
 ghost use Rattle.std.specs.Prelude.{◌≡◌, ◌+◌, ◌≤◌, ◌<◌, length};
 ghost use Rattle.lengths.specs.Lengths.{file_letters};
 ghost use Rattle.agreement.specs.Steps.Trying.{Compared};
-ghost use Rattle.present.specs.Steps.Places.{StartsAt, Present};
-ghost use Rattle.comparing_nodes.specs.Steps.Noting.{noted};
+ghost use Rattle.comparing_nodes.specs.Steps.Noting.{noted, wrong_of, rank_of, place_of};
 
-use group::Group;
+use present::Nodes;
 
-// How many nodes the file doesn't fit: none, one, or two where there are more. Of the first of them its rank, and the place of its first wrong letter, both from 1.
-#[derive(Clone, Copy)]
-pub struct Found {
-    pub wrong: usize,
+// A node that a file doesn't fit: its rank, and the place of its first wrong letter, both from 1.
+#[derive(Clone, Copy, PartialEq, Eq)]
+pub struct Wrong {
     pub rank: usize,
     pub place: usize,
+}
+
+// How many nodes a file doesn't fit: none, one, or more.
+#[derive(Clone, Copy, PartialEq, Eq)]
+pub enum Found {
+    Nobody,
+    One(Wrong),
+    Several,
 }
 
 // What is found with one rank more, whose first `right` letters of `count` are right.
@@ -25,57 +31,37 @@ fn note(found: Found, rank: usize, right: usize, count: usize) -> Found
     if count <= right {
         return found;
     }
-    if found.wrong == 0 {
-        return Found {
-            wrong: 1,
+    match found {
+        Found::Nobody => Found::One(Wrong {
             rank,
             place: right + 1,
-        };
-    }
-    Found {
-        wrong: 2,
-        rank: found.rank,
-        place: found.place,
+        }),
+        Found::One(_) | Found::Several => Found::Several,
     }
 }
 
 // The rank after the first `ranks`.
-fn compare_next(
-    g: Group,
-    ids: &[usize],
-    starts: &[usize],
-    packets: &[u8],
-    file: &[u8],
-    ranks: usize,
-    found: Found,
-) -> Found
-    requires present { (Present g ids.now packets.now) × (StartsAt g ids.now starts.now) }
-    requires next { (length file.now ≡ file_letters g) × (ranks < length ids.now) × (found.wrong < 2) × (Compared g ids.now packets.now file.now ranks found.wrong found.rank found.place) }
-    ensures { (result.wrong ≤ 2) × (Compared g ids.now packets.now file.now (ranks + 1) result.wrong result.rank result.place) }
+fn compare_next(nodes: &Nodes, file: &[u8], ranks: usize, found: Found) -> Found
+    requires next { (length file.now ≡ file_letters nodes.now.g) × (ranks < length nodes.now.ids.now) × (wrong_of found < 2) }
+    requires before { Compared nodes.now.g nodes.now.ids.now nodes.now.packets.now file.now ranks (wrong_of found) (rank_of found) (place_of found) }
+    ensures { (wrong_of result ≤ 2) × (Compared nodes.now.g nodes.now.ids.now nodes.now.packets.now file.now (ranks + 1) (wrong_of result) (rank_of result) (place_of result)) }
 {
-    let node = ids[ranks];
-    let start = starts[ranks];
-    let end = starts[ranks + 1];
-    let right = comparing::right_letters(g, node, file, &packets[start..end]);
+    let node = nodes.ids[ranks];
+    let start = nodes.starts[ranks];
+    let end = nodes.starts[ranks + 1];
+    let right = comparing::right_letters(nodes.g, node, file, &nodes.packets[start..end]);
     note(found, ranks + 1, right, end - start)
 }
 
 // Rank after rank.
-pub fn compare_all(g: Group, ids: &[usize], starts: &[usize], packets: &[u8], file: &[u8]) -> Found
-    requires present { (Present g ids.now packets.now) × (StartsAt g ids.now starts.now) }
-    requires file { length file.now ≡ file_letters g }
-    ensures { (result.wrong ≤ 2) × (Compared g ids.now packets.now file.now (length ids.now) result.wrong result.rank result.place) }
+pub fn compare_all(nodes: &Nodes, file: &[u8]) -> Found
+    requires { length file.now ≡ file_letters nodes.now.g }
+    ensures { (wrong_of result ≤ 2) × (Compared nodes.now.g nodes.now.ids.now nodes.now.packets.now file.now (length nodes.now.ids.now) (wrong_of result) (rank_of result) (place_of result)) }
 {
-    let mut found = Found {
-        wrong: 0,
-        rank: 0,
-        place: 0,
-    };
-    let mut v = 0;
-    while v < ids.len() {
-        found = compare_next(g, ids, starts, packets, file, v, found);
-        v += 1;
-        if 2 <= found.wrong {
+    let mut found = Found::Nobody;
+    for v in 0..nodes.ids.len() {
+        found = compare_next(nodes, file, v, found);
+        if found == Found::Several {
             return found;
         }
     }

@@ -18,8 +18,10 @@ use Rattle.system.proofs.Terms.{terms_same}
 use Rattle.equation.specs.Rows.{shift_in}
 use Rattle.counting.specs.Steps.Taken.{run_terms, others_terms}
 use Rattle.group.specs.declared.Group.{Group}
+use Rattle.lengths.specs.Lengths.{file_letters}
 use Rattle.sequences.specs.Lists.{ranked}
 use Rattle.sequences.proofs.Charted.{rows_shift}
+use Rattle.matrix.specs.declared.senders.Senders.{Senders}
 use Rattle.matrix.specs.Matrix.{matrix, entry_number}
 use Rattle.matrix.specs.Counts.{taking_out, recovery_count}
 use Rattle.matrix.proofs.Product.{free}
@@ -140,3 +142,7 @@ module _ (g : Group) (ids file : List ℕ) where
       (λ u lo hi. column_terms_lem u lo)
       ∙ sum_plus counts g.d (λ u. additions (min u g.k) g.l (shifts ids) (λ a. matrix xors g file a u)) takings
       ∙ ap (λ m. sum counts g.d (λ u. additions (min u g.k) g.l (shifts ids) (λ a. matrix xors g file a u)) + m) (all_takings some)
+
+-- a file of the right length, and the nodes that it came from
+pub recovery_of : (s : Senders) (file : List ℕ) → length file ≡ file_letters s.g → Recovery s.g s.ids.now s.rows.now file
+recovery_of s file long = record { chosen = s.chosen; shifts = s.shifts; long = long }

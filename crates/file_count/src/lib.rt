@@ -2,87 +2,72 @@
 // that take it out of the columns before.
 #![tactic(auto)]
 
-ghost use Rattle.std.specs.Prelude.{◌≡◌, ◌+◌, ◌-◌, ◌*◌, ◌≤◌, min};
+ghost use Rattle.std.specs.Prelude.{◌≡◌, ◌+◌, ◌-◌, ◌*◌, ◌≤◌, min, length};
+ghost use Rattle.lengths.specs.Lengths.{file_letters};
 ghost use Rattle.matrix.specs.Matrix.{entry_number};
 ghost use Rattle.matrix.specs.Counts.{recovery_count};
-ghost use Rattle.counting.specs.Steps.Taken.{Counted};
-ghost use Rattle.file_count.specs.Steps.Terms.{Recovery, solving_terms, taking_terms, column_terms, entry_most};
+ghost use Rattle.file_count.specs.Steps.Terms.{solving_terms, taking_terms, column_terms, entry_most};
 
-use group::Group;
+use counting::Run;
 use matrix::entries;
+use matrix::senders::Senders;
 
-// The number of terms of document 01's sums whose letter isn't zero, where `file` came out of the pieces of the nodes `ids`, whose shifts stand in `rows`.
+// The number of terms of document 01's sums whose letter isn't zero, where `file` came out of the pieces of these nodes.
 // Column 1 has none: it has one entry, which is taken out of nothing.
-pub fn of_file(g: Group, ids: &[usize], rows: &[usize], file: &[u8]) -> usize
-    requires { Recovery g ids.now rows.now file.now }
-    ensures { result ≡ recovery_count g ids.now file.now }
+pub fn of_file(senders: &Senders, file: &[u8]) -> usize
+    requires { length file.now ≡ file_letters senders.now.g }
+    ensures { result ≡ recovery_count senders.now.g senders.now.ids.now file.now }
 {
     let mut count: usize = 0;
-    let mut u = 1;
-    while u < g.d {
-        u += 1;
-        count += of_column(g, ids, rows, u, file);
+    for u in 1..senders.g.d {
+        count += of_column(senders, u + 1, file);
     }
     count
 }
 
 // Those of column `u`: of its min(u,k) entries.
-fn of_column(g: Group, ids: &[usize], rows: &[usize], u: usize, file: &[u8]) -> usize
-    requires { (Recovery g ids.now rows.now file.now) × (1 ≤ u) × (u ≤ g.d) }
-    ensures { (result ≡ column_terms g ids.now file.now u) × (result ≤ 16 * (entry_most + entry_most)) }
+fn of_column(senders: &Senders, u: usize, file: &[u8]) -> usize
+    requires { (length file.now ≡ file_letters senders.now.g) × (1 ≤ u) × (u ≤ senders.now.g.d) }
+    ensures { (result ≡ column_terms senders.now.g senders.now.ids.now file.now u) × (result ≤ 16 * (entry_most + entry_most)) }
 {
-    let s = letters::lesser(u, g.k);
+    let s = u.min(senders.g.k);
     let mut count: usize = 0;
-    let mut v = 0;
-    while v < s {
-        v += 1;
-        count += of_entry(g, ids, rows, u, s, v, file);
+    for v in 0..s {
+        count += of_entry(senders, u, s, v + 1, file);
     }
     count
 }
 
 // Those of entry (v,u).
-fn of_entry(
-    g: Group,
-    ids: &[usize],
-    rows: &[usize],
-    u: usize,
-    s: usize,
-    v: usize,
-    file: &[u8],
-) -> usize
-    requires { (Recovery g ids.now rows.now file.now) × (1 ≤ u) × (u ≤ g.d) × (s ≡ min u g.k) × (1 ≤ v) × (v ≤ s) }
-    ensures { (result ≡ solving_terms g ids.now file.now u v + taking_terms g ids.now file.now u v) × (result ≤ entry_most + entry_most) }
+fn of_entry(senders: &Senders, u: usize, s: usize, v: usize, file: &[u8]) -> usize
+    requires { (length file.now ≡ file_letters senders.now.g) × (1 ≤ u) × (u ≤ senders.now.g.d) × (s ≡ min u senders.now.g.k) × (1 ≤ v) × (v ≤ s) }
+    ensures terms { result ≡ solving_terms senders.now.g senders.now.ids.now file.now u v + taking_terms senders.now.g senders.now.ids.now file.now u v }
+    ensures few { result ≤ entry_most + entry_most }
 {
+    let g = senders.g;
     let start = entries::free_start(g, v, u);
-    let whole = worth::count(file, start, g.l);
-    let solving = counting::of_others(file, start, g.l, whole, rows, s, v);
-    solving + of_takings(g, ids, rows, u, v, start, whole, file)
+    let run = Run {
+        buffer: file,
+        start,
+        n: g.l,
+        whole: worth::count(file, start, g.l),
+    };
+    let solving = run.of_others(senders.rows, s, v);
+    solving + of_takings(senders, u, v, &run)
 }
 
 // Those that take entry (v,u) out of the entries (w,v), w <= v: none if that is its own column.
-fn of_takings(
-    g: Group,
-    ids: &[usize],
-    rows: &[usize],
-    u: usize,
-    v: usize,
-    start: usize,
-    whole: usize,
-    file: &[u8],
-) -> usize
-    requires recovery { (Recovery g ids.now rows.now file.now) × (1 ≤ u) × (u ≤ g.d) × (1 ≤ v) × (v ≤ min u g.k) }
-    requires run { (Counted file.now start g.l whole) × (start ≡ (entry_number g.k v u - 1) * g.l) }
-    ensures { (result ≡ taking_terms g ids.now file.now u v) × (result ≤ entry_most) }
+fn of_takings(senders: &Senders, u: usize, v: usize, run: &Run) -> usize
+    requires entry { (1 ≤ u) × (u ≤ senders.now.g.d) × (1 ≤ v) × (v ≤ min u senders.now.g.k) }
+    requires run { let g = senders.now.g in (length run.now.buffer.now ≡ file_letters g) × (run.now.n ≡ g.l) × (run.now.start ≡ (entry_number g.k v u - 1) * g.l) }
+    ensures { (result ≡ taking_terms senders.now.g senders.now.ids.now run.now.buffer.now u v) × (result ≤ entry_most) }
 {
     if u <= v {
         return 0;
     }
     let mut count: usize = 0;
-    let mut w = 0;
-    while w < v {
-        w += 1;
-        count += counting::of_run(file, start, g.l, whole, rows, w, u);
+    for w in 0..v {
+        count += run.of_run(senders.rows, w + 1, u);
     }
     count
 }

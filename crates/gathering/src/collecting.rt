@@ -3,76 +3,46 @@ ghost use Rattle.std.specs.Prelude.{◌≡◌, ◌+◌, ◌-◌, ◌*◌, ◌≤
 ghost use Rattle.letters.specs.Laid.{Laid};
 ghost use Rattle.lengths.specs.Lengths.{file_letters};
 ghost use Rattle.matrix.specs.Matrix.{before, entry_number, Free};
-ghost use Rattle.present.specs.Steps.Places.{StartsAt, Present};
 ghost use Rattle.gathering.specs.Steps.Gathered.{collected_without};
 
 use crate::kept;
-use group::Group;
+use lengths::known::Member;
 use matrix::entries;
+use present::Nodes;
 
 // Fills `file` with the pieces of the first k+1 nodes without the one of rank `without`, laid out as the file.
-pub fn collect(
-    g: Group,
-    ids: &[usize],
-    starts: &[usize],
-    without: usize,
-    packets: &[u8],
-    file: &mut [u8],
-)
-    requires present { (Present g ids.now packets.now) × (StartsAt g ids.now starts.now) }
-    requires room { length file.old ≡ file_letters g }
-    ensures { file.new ≡ collected_without g ids.now packets.now without }
+pub fn collect(nodes: &Nodes, without: usize, file: &mut [u8])
+    requires { length file.old ≡ file_letters nodes.now.g }
+    ensures { file.new ≡ collected_without nodes.now.g nodes.now.ids.now nodes.now.packets.now without }
 {
-    let mut u = 0;
-    while u < g.d {
-        u += 1;
-        collect_column(g, ids, starts, without, u, packets, file);
+    for u in 0..nodes.g.d {
+        collect_column(nodes, without, u + 1, file);
     }
 }
 
 // Those of column `u`, one after another.
-fn collect_column(
-    g: Group,
-    ids: &[usize],
-    starts: &[usize],
-    without: usize,
-    u: usize,
-    packets: &[u8],
-    file: &mut [u8],
-)
-    requires present { (Present g ids.now packets.now) × (StartsAt g ids.now starts.now) }
-    requires room { (length file.old ≡ file_letters g) × (1 ≤ u) × (u ≤ g.d) }
-    ensures { Laid file.old file.new (before g.k u * g.l) (before g.k (u + 1) * g.l) (λ q. get_or (collected_without g ids.now packets.now without) q 0) }
+fn collect_column(nodes: &Nodes, without: usize, u: usize, file: &mut [u8])
+    requires { (length file.old ≡ file_letters nodes.now.g) × (1 ≤ u) × (u ≤ nodes.now.g.d) }
+    ensures { Laid file.old file.new (before nodes.now.g.k u * nodes.now.g.l) (before nodes.now.g.k (u + 1) * nodes.now.g.l) (λ q. get_or (collected_without nodes.now.g nodes.now.ids.now nodes.now.packets.now without) q 0) }
 {
-    let sequences = letters::lesser(u, g.k);
+    let g = nodes.g;
+    let sequences = u.min(g.k);
     let mut at = entries::free_start(g, 1, u);
-    let mut v = 0;
-    while v < sequences {
-        v += 1;
-        collect_piece(g, ids, starts, without, v, u, at, packets, file);
+    for v in 0..sequences {
+        collect_piece(nodes, without, v + 1, u, at, file);
         at += g.l;
     }
 }
 
 // That of the v-th node and column `u`, which stands at index `at`.
-fn collect_piece(
-    g: Group,
-    ids: &[usize],
-    starts: &[usize],
-    without: usize,
-    v: usize,
-    u: usize,
-    at: usize,
-    packets: &[u8],
-    file: &mut [u8],
-)
-    requires present { (Present g ids.now packets.now) × (StartsAt g ids.now starts.now) }
-    requires room { (length file.old ≡ file_letters g) × (Free g v u) × (at ≡ (entry_number g.k v u - 1) * g.l) }
-    ensures { Laid file.old file.new at (at + g.l) (λ q. get_or (collected_without g ids.now packets.now without) q 0) }
+fn collect_piece(nodes: &Nodes, without: usize, v: usize, u: usize, at: usize, file: &mut [u8])
+    requires { (length file.old ≡ file_letters nodes.now.g) × (Free nodes.now.g v u) × (at ≡ (entry_number nodes.now.g.k v u - 1) * nodes.now.g.l) }
+    ensures { Laid file.old file.new at (at + nodes.now.g.l) (λ q. get_or (collected_without nodes.now.g nodes.now.ids.now nodes.now.packets.now without) q 0) }
 {
+    let g = nodes.g;
     let rank = kept::rank(without, v);
-    let node = ids[rank - 1];
-    let start = starts[rank - 1] + lengths::known::packet_start(g, node, u);
+    let node = nodes.ids[rank - 1];
+    let start = nodes.starts[rank - 1] + Member { g, node }.packet_start(u);
     let from = start + shifts::shift(node, v);
-    letters::moving::copy(packets, from, file, at, g.l);
+    letters::moving::copy(nodes.packets, from, file, at, g.l);
 }

@@ -22,11 +22,9 @@ pub fn ids(g: Group, all: &[usize], without: usize) -> [usize; 16]
     ensures { KeptIds g all.now without result }
 {
     let mut kept = [0usize; 16];
-    let mut v = 0;
-    while v < g.k {
+    for v in 0..g.k {
         let rank = rank(without, v + 1);
         kept[v] = all[rank - 1];
-        v += 1;
     }
     kept
 }

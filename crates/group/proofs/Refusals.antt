@@ -9,7 +9,7 @@ use Rattle.letters.specs.Places.{both}
 use Rattle.group.specs.declared.Refusal.{Refusal}
 use Rattle.group.specs.declared.Refusal.TheVariants.{Numbers, Length, Ids, Order, Input, Output, Unfinished, Kind, HeadNumber, Filler, Total, AfterEnd, TooFew}
 use Rattle.std.specs.Prelude.{Result, Ok, Err}
-use Rattle.std.specs.Result.{IsErrAnd}
+use Rattle.std.specs.Result.{IsErrAnd, result_unwrap_or}
 use Rattle.std.proofs.lemmas.Result.{err_from_is_err_and}
 use Rattle.group.specs.Answers.{Answer, Check, refusal_number, check_number, number_of, value_of, unless, first, if_fine, Answers}
 
@@ -111,6 +111,11 @@ skipped a b n z e = e ∙ sym (first_fine a b z)
 -- where `?` hands on what is wrong, that comes back
 pub handed_on : {A E : Type 0} (r : Result A E) (e : E) → IsErrAnd r (λ x. x ≡ e) → r ≡ Err e
 handed_on r e h = let p = err_from_is_err_and r h in p.1 ∙ ap Err p.2
+
+-- the library's word for an answer's value, and 0 for a refusal
+pub unwrapped : (k : Answer) → result_unwrap_or k 0 ≡ value_of k
+unwrapped (Ok v) = refl
+unwrapped (Err r) = refl
 
 -- what an answer that is told apart tells
 pub answered_value : (k : Answer) (w q v : ℕ) → k ≡ Ok w → Answers k q v → (q ≡ 0) × (w ≡ v)

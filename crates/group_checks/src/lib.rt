@@ -11,10 +11,7 @@ use group::{Group, Refusal};
 pub fn is_between(low: usize, high: usize, number: usize) -> bool
     ensures { result ≡ between low high number }
 {
-    if number < low {
-        return false;
-    }
-    number <= high
+    (low..=high).contains(&number)
 }
 
 // n is 3 to 16, and 2 <= k <= d <= n-1.

@@ -103,10 +103,8 @@ fn put_bytes(head: Head, size: usize, share: &mut [u8])
     requires { (HeadFits head) × (size ≡ head_size head.kind) × (size ≤ length share.old) }
     ensures { Laid share.old share.new 0 size (λ p. get_or (head_record head) p 0) }
 {
-    let mut at = 0;
-    while at < size {
+    for at in 0..size {
         share[at] = head_byte(head, at);
-        at += 1;
     }
 }
 

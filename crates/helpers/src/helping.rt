@@ -6,6 +6,8 @@ ghost use Rattle.helpers.specs.Calls.{helper_refusal, Helped};
 ghost use Rattle.helper_sums.specs.Steps.Checked.{Helper};
 
 use group::{Group, Refusal};
+use helper_sums::Helping;
+use lengths::known::Member;
 
 // Fills `piece` with what the helper of this rank sends for the lost node: letters t(h,u)+1 .. t(h,u)+L' of r, the sum of its packets
 // each moved right by the lost node's shift. `packets` has exactly the helper's T letters (else 5) and `piece` exactly L' (else 6).
@@ -69,9 +71,18 @@ fn help_exact(
     ensures { Helped g lost helper rank packets.now piece.old piece.new result }
 {
     let table = shifts::all();
-    let size = lengths::known::widened_in(&table, g, helper);
-    let wanted = lengths::known::widened_in(&table, g, lost);
+    let size = Member { g, node: helper }.widened_in(&table);
+    let wanted = Member { g, node: lost }.widened_in(&table);
     group_checks::lengths(packets.len(), g.d * size, piece.len(), wanted)?;
-    helper_sums::sum_packets(g, lost, helper, rank, size, &table, packets, piece);
+    let helping = Helping {
+        g,
+        lost,
+        helper,
+        rank,
+        size,
+        table: &table,
+        packets,
+    };
+    helping.sum_packets(piece);
     Ok(0)
 }

@@ -1,5 +1,5 @@
 -- Lists of ids: what the checks on them say of each index, and how a loop finds it out from the ids that are left.
-use mathlib.Core.Path.{◌≡◌, refl}
+use mathlib.Core.Path.{◌≡◌, refl, sym}
 use mathlib.Core.Bool.{Bool, true, false}
 use mathlib.Core.List.{List, [], ◌∷◌}
 use Prim.Native.Nat.{ℕ, zero, suc, ◌+◌, ◌-◌, ◌≤◌, ◌<◌}
@@ -11,6 +11,9 @@ use lib.Dec.{ltb, eqb}
 use lib.ListN.{length, get_or, drop, drop_of_length-le}
 use lib.Seq.{drop-cons}
 use borrow.Author.Tests.{ltb-true, eqb-false}
+use Rattle.std.specs.List.{IsAnyAnswer}
+use Rattle.std.proofs.lemmas.Bool.{false≢true}
+use Rattle.std.proofs.lemmas.List.Recursion.{or_is}
 use Rattle.letters.specs.Places.{both, either}
 use Rattle.group.specs.Ranges.{between}
 use Rattle.ids.specs.Ids.{all_in_range, falling, among}
@@ -31,11 +34,13 @@ all_next n ids q h = rw (ids_from ids q h)
 pub none_left : (ids : List ℕ) (q : ℕ) → length ids ≤ q → drop q ids ≡ []
 none_left ids q h = drop_of_length-le ids h
 
-pub among_next :
-    (f : ℕ) (ids : List ℕ) (q : ℕ) → q < length ids
-    → among f (drop q ids) ≡ either (eqb (get_or ids q 0) f) (among f (drop (q + 1) ids))
+-- what the list's own search answers is whether f is among the ids
+pub among_from : (f : ℕ) (ids : List ℕ) (r : Bool) → IsAnyAnswer (λ y b. eqb y f ≡ b) ids r → r ≡ among f ids
 unfolding among
-among_next f ids q h = rw (ids_from ids q h)
+among_from f ids true h =
+    or_is (among f) (λ i. eqb i f) refl (λ i ids. refl) ids 0 true (λ e. (h.0, h.1, h.2 0)) (λ e. absurd (false≢true (sym e)))
+among_from f ids false h =
+    or_is (among f) (λ i. eqb i f) refl (λ i ids. refl) ids 0 false (λ e. absurd (false≢true e)) (λ e i l. h i 0 (omega arith) l)
 
 pub falling_next :
     (ids : List ℕ) (i : ℕ) → 1 ≤ i → i < length ids

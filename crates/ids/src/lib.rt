@@ -11,15 +11,13 @@ use group::{Group, Refusal};
 pub fn all_in_range(ids: &[usize], n: usize) -> bool
     ensures { result ≡ all_in_range n ids.now }
 {
-    let mut i = 0;
-    while i < ids.len() {
-        if ids[i] < 1 {
+    for id in ids {
+        if *id < 1 {
             return false;
         }
-        if n < ids[i] {
+        if n < *id {
             return false;
         }
-        i += 1;
     }
     true
 }
@@ -28,12 +26,10 @@ pub fn all_in_range(ids: &[usize], n: usize) -> bool
 pub fn strictly_falling(ids: &[usize]) -> bool
     ensures { result ≡ falling ids.now }
 {
-    let mut i = 1;
-    while i < ids.len() {
+    for i in 1..ids.len() {
         if ids[i - 1] <= ids[i] {
             return false;
         }
-        i += 1;
     }
     true
 }
@@ -42,14 +38,7 @@ pub fn strictly_falling(ids: &[usize]) -> bool
 pub fn is_among(node: usize, ids: &[usize]) -> bool
     ensures { result ≡ among node ids.now }
 {
-    let mut i = 0;
-    while i < ids.len() {
-        if ids[i] == node {
-            return true;
-        }
-        i += 1;
-    }
-    false
+    ids.contains(&node)
 }
 
 // A list of ids that must be `wanted` many: refusal 3, and then 4.

@@ -64,16 +64,6 @@ fn serves(kind: usize, l: usize) -> bool
     }
 }
 
-// One less, and 0 for 0.
-fn less_one(x: usize) -> usize
-    ensures { result ≡ x - 1 }
-{
-    if x == 0 {
-        return 0;
-    }
-    x - 1
-}
-
 // The ranges of k and d. What is no kind has those of kind 1: no byte of it is looked at.
 pub fn limits_of(kind: usize, n: usize, k: usize) -> Limits
     ensures { result ≡ limits_at kind n k }
@@ -85,7 +75,7 @@ pub fn limits_of(kind: usize, n: usize, k: usize) -> Limits
             most_d: 0,
         };
     }
-    let most = less_one(n);
+    let most = n.saturating_sub(1);
     Limits {
         most_k: most,
         least_d: k,
@@ -147,25 +137,15 @@ pub fn check(kind: usize, g: Group, node: usize) -> Result<(), Refusal>
     }
 }
 
-// The value of an answer; a refusal carries 0.
-fn value_of(answer: Result<usize, Refusal>) -> usize
-    ensures { result ≡ value_of answer }
-{
-    match answer {
-        Ok(value) => value,
-        Err(_) => 0,
-    }
-}
-
 // T, the letters of a share with these numbers; 0 where they are out of range, or where this is no kind.
 pub fn total(kind: usize, g: Group, node: usize) -> usize
     ensures { result ≡ row_total (row_for_kind kind) g node }
 {
     if serves(kind, g.l) {
-        return value_of(lengths::packet_letters(g, node));
+        return lengths::packet_letters(g, node).unwrap_or(0);
     }
     if kind == PREVIEWS {
-        return value_of(preview_numbers::packet_letters(g, node));
+        return preview_numbers::packet_letters(g, node).unwrap_or(0);
     }
     0
 }

@@ -4,70 +4,51 @@
 ghost use Rattle.std.specs.Prelude.{◌≡◌, ◌+◌, ◌≤◌, length};
 ghost use Rattle.letters.specs.Algebra.{xors};
 ghost use Rattle.shifts.specs.Rule.{t};
-ghost use Rattle.shifts.specs.Table.{Table};
-ghost use Rattle.group.specs.Ranges.{InRange, NodeOf};
-ghost use Rattle.lengths.specs.Lengths.{file_letters, node_letters, packet_length};
+ghost use Rattle.group.specs.Ranges.{InRange};
+ghost use Rattle.lengths.specs.Lengths.{node_letters, packet_length};
 ghost use Rattle.sequences.specs.Steps.Rows.{RowOf};
 ghost use Rattle.matrix.specs.Matrix.{packet, packets as product};
 ghost use Rattle.laid_packets.specs.Steps.Rows.{RowsUsed};
 
 use group::Group;
+use matrix::encoding::Encoding;
 use matrix::entries;
-use sequences::{moved, rows};
+use sequences::moved::Moved;
+use sequences::rows::{self, Tabled};
 
-// The d packets, one after another, all of `size` letters.
-pub fn lay_packets(
-    g: Group,
-    node: usize,
-    size: usize,
-    table: &[u8],
-    file: &[u8],
-    packets: &mut [u8],
-)
-    requires table { Table table.now }
-    requires node { (NodeOf g node) × (size ≡ packet_length g node 1) × (size ≤ g.l + g.l) }
-    requires lengths { (length file.now ≡ file_letters g) × (length packets.old ≡ node_letters g node) }
-    ensures { packets.new ≡ product xors g file.now node }
+// The d packets, one after another.
+pub fn lay_packets(encoding: &Encoding, packets: &mut [u8])
+    requires size { encoding.now.size ≤ encoding.now.g.l + encoding.now.g.l }
+    requires lengths { length packets.old ≡ node_letters encoding.now.g encoding.now.node }
+    ensures { packets.new ≡ product xors encoding.now.g encoding.now.file.now encoding.now.node }
 {
-    let shifts = rows::shift_row(table, node);
+    let table = encoding.table;
+    let shifts = rows::row(&Tabled { table }, encoding.node);
     let mut end = 0;
-    let mut j = 0;
-    while j < g.d {
-        j += 1;
+    for j in 0..encoding.g.d {
         let start = end;
-        end = start + size;
-        lay_packet(g, node, j, size, &shifts, file, &mut packets[start..end]);
+        end = start + encoding.size;
+        lay_packet(encoding, j + 1, &shifts, &mut packets[start..end]);
     }
 }
 
 // Packet `column` of the node: the sum of the column's entries, each moved right by the node's shift of its row.
-fn lay_packet(
-    g: Group,
-    node: usize,
-    column: usize,
-    size: usize,
-    shifts: &[usize],
-    file: &[u8],
-    letters: &mut [u8],
-)
-    requires shifts { RowOf t node shifts.now }
-    requires node { (NodeOf g node) × (1 ≤ column) × (column ≤ g.d) × (size ≡ packet_length g node column) × (size ≤ g.l + g.l) }
-    requires lengths { (length file.now ≡ file_letters g) × (length letters.old ≡ packet_length g node column) }
-    ensures { letters.new ≡ packet xors g file.now node column }
+fn lay_packet(encoding: &Encoding, column: usize, shifts: &[usize], letters: &mut [u8])
+    requires shifts { RowOf t encoding.now.node shifts.now }
+    requires column { (1 ≤ column) × (column ≤ encoding.now.g.d) × (encoding.now.size ≤ encoding.now.g.l + encoding.now.g.l) }
+    requires letters { length letters.old ≡ packet_length encoding.now.g encoding.now.node column }
+    ensures { letters.new ≡ packet xors encoding.now.g encoding.now.file.now encoding.now.node column }
 {
+    let g = encoding.g;
     let starts = entries::column_starts(g, column);
     let rows = rows_used(g, column);
-    moved::lay_sum(
-        letters,
-        file,
-        g.l,
-        &starts,
-        shifts,
-        rows,
-        0,
-        size - g.l,
-        g.l,
-    );
+    let runs = Moved {
+        from: encoding.file,
+        size: g.l,
+        starts: &starts[0..rows],
+        leads: shifts,
+    };
+    runs.lay_sum(letters, 0, encoding.size - g.l, g.l);
 }
 
 // How many rows of a column are to be summed: the others are in the zero corner.

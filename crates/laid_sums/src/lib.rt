@@ -9,17 +9,17 @@ ghost use Rattle.sums.specs.Sums.{sum_at, RunsInside};
 
 use sums::sources;
 
-// Fills `into` with the sum of `sources` runs of `from`, as long as `into` each, of which the first start at the indices in `starts`.
-pub fn lay(into: &mut [u8], from: &[u8], starts: &[usize], sources: usize)
-    requires { RunsInside starts.now sources (length into.old) (length from.now) }
-    ensures { Laid into.old into.new 0 (length into.old) (sum_at from.now starts.now sources) }
+// Fills `into` with the sum of the runs of `from` that start at these indices, as long as `into` each.
+pub fn lay(into: &mut [u8], from: &[u8], starts: &[usize])
+    requires { RunsInside starts.now (length starts.now) (length into.old) (length from.now) }
+    ensures { Laid into.old into.new 0 (length into.old) (sum_at from.now starts.now (length starts.now)) }
 {
     if into.len() < sums::BLOCK {
-        apart::lay_letters(into, from, starts, sources);
+        apart::lay_letters(into, from, starts);
         return;
     }
     let first = into.len() % sums::BLOCK;
-    let block = sources::block(from, starts, sources, 0);
+    let block = sources::block(from, starts, 0);
     letters::moving::copy(&block, 0, into, 0, first);
-    apart::lay_blocks(into, from, starts, sources, first);
+    apart::lay_blocks(into, from, starts, first);
 }

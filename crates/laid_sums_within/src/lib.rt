@@ -10,16 +10,16 @@ ghost use Rattle.sums.specs.Sums.{sum_at, RunsInside, NoneBefore};
 use sums::sources;
 
 // Within one buffer `count` letters from index `to` on become the sum of as long runs that start at `to` or later. A run that starts at `to` is what stood there.
-pub fn lay_within(buffer: &mut [u8], to: usize, starts: &[usize], sources: usize, count: usize)
-    requires { (RunsInside starts.now sources count (length buffer.old)) × (NoneBefore starts.now sources to) }
-    ensures { Laid buffer.old buffer.new to (to + count) (λ p. sum_at buffer.old starts.now sources (p - to)) }
+pub fn lay_within(buffer: &mut [u8], to: usize, starts: &[usize], count: usize)
+    requires { (RunsInside starts.now (length starts.now) count (length buffer.old)) × (NoneBefore starts.now (length starts.now) to) }
+    ensures { Laid buffer.old buffer.new to (to + count) (λ p. sum_at buffer.old starts.now (length starts.now) (p - to)) }
 {
     if count < sums::BLOCK {
-        within::lay_letters(buffer, to, starts, sources, count);
+        within::lay_letters(buffer, to, starts, count);
         return;
     }
     let first = count % sums::BLOCK;
-    let block = sources::block(buffer, starts, sources, 0);
+    let block = sources::block(buffer, starts, 0);
     letters::moving::copy(&block, 0, buffer, to, first);
-    within::lay_blocks(buffer, to, starts, sources, count, first);
+    within::lay_blocks(buffer, to, starts, count, first);
 }

@@ -8,34 +8,24 @@ use adding::eights;
 use sums::sources;
 
 // The letters from `start` behind `to` on, in blocks; `start` is what blocks leave over of `count`.
-pub fn lay_blocks(
-    buffer: &mut [u8],
-    to: usize,
-    starts: &[usize],
-    sources: usize,
-    count: usize,
-    start: usize,
-)
-    requires runs { (RunsInside starts.now sources count (length buffer.old)) × (NoneBefore starts.now sources to) }
+pub fn lay_blocks(buffer: &mut [u8], to: usize, starts: &[usize], count: usize, start: usize)
+    requires runs { (RunsInside starts.now (length starts.now) count (length buffer.old)) × (NoneBefore starts.now (length starts.now) to) }
     requires start { start ≡ left_over count widest_block }
-    ensures { Laid buffer.old buffer.new (to + start) (to + count) (λ p. sum_at buffer.old starts.now sources (p - to)) }
+    ensures { Laid buffer.old buffer.new (to + start) (to + count) (λ p. sum_at buffer.old starts.now (length starts.now) (p - to)) }
 {
-    let mut at = start;
-    while at < count {
-        let block = sources::block(buffer, starts, sources, at);
+    for b in 0..count / eights::WIDEST {
+        let at = start + b * eights::WIDEST;
+        let block = sources::block(buffer, starts, at);
         letters::moving::copy(&block, 0, buffer, to + at, eights::WIDEST);
-        at += eights::WIDEST;
     }
 }
 
 // All letters, one by one.
-pub fn lay_letters(buffer: &mut [u8], to: usize, starts: &[usize], sources: usize, count: usize)
-    requires { (RunsInside starts.now sources count (length buffer.old)) × (NoneBefore starts.now sources to) }
-    ensures { Laid buffer.old buffer.new to (to + count) (λ p. sum_at buffer.old starts.now sources (p - to)) }
+pub fn lay_letters(buffer: &mut [u8], to: usize, starts: &[usize], count: usize)
+    requires { (RunsInside starts.now (length starts.now) count (length buffer.old)) × (NoneBefore starts.now (length starts.now) to) }
+    ensures { Laid buffer.old buffer.new to (to + count) (λ p. sum_at buffer.old starts.now (length starts.now) (p - to)) }
 {
-    let mut at = 0;
-    while at < count {
-        buffer[to + at] = sources::letter(buffer, starts, sources, at);
-        at += 1;
+    for at in 0..count {
+        buffer[to + at] = sources::letter(buffer, starts, at);
     }
 }

@@ -23,51 +23,56 @@ pub fn file(g: Group) -> usize
     sequences_of(g) * g.l
 }
 
-// A sequence's letters and the most that a node moves one by: L + t(i,d). The table is lent, for who needs it for more than this.
-pub fn widened_in(table: &[u8], g: Group, node: usize) -> usize
-    requires table { Table table.now }
-    requires node { NodeOf g node }
-    ensures { (result ≡ g.l + t node g.d) × (result ≤ longest_packet) }
-{
-    g.l + shifts::shift_in(table, node, g.d)
+// A node of a group whose numbers are in range.
+#[derive(Clone, Copy)]
+pub struct Member {
+    pub g: Group,
+    pub node: usize,
+    pub ghost of: { NodeOf g node },
 }
 
-// The same for this alone.
-fn widened(g: Group, node: usize) -> usize
-    requires { NodeOf g node }
-    ensures { (result ≡ g.l + t node g.d) × (result ≤ longest_packet) }
-{
-    g.l + shifts::shift(node, g.d)
-}
+impl Member {
+    // A sequence's letters and the most that the node moves one by: L + t(i,d). The table is lent, for who needs it for more than this.
+    pub fn widened_in(self, table: &[u8]) -> usize
+        requires { Table table.now }
+        ensures { (result ≡ self.g.l + t self.node self.g.d) × (result ≤ longest_packet) }
+    {
+        self.g.l + shifts::shift_in(table, self.node, self.g.d)
+    }
 
-// The index at which a packet of a node starts.
-pub fn packet_start(g: Group, node: usize, column: usize) -> usize
-    requires { (NodeOf g node) × (1 ≤ column) × (column ≤ g.d) }
-    ensures { result ≡ packet_start g node column }
-{
-    (column - 1) * widened(g, node)
-}
+    // The same for this alone.
+    fn widened(self) -> usize
+        ensures { (result ≡ self.g.l + t self.node self.g.d) × (result ≤ longest_packet) }
+    {
+        self.g.l + shifts::shift(self.node, self.g.d)
+    }
 
-// T, the letters that a node holds.
-pub fn node(g: Group, node: usize) -> usize
-    requires { NodeOf g node }
-    ensures { result ≡ node_letters g node }
-{
-    g.d * widened(g, node)
-}
+    // The index at which a packet of the node starts.
+    pub fn packet_start(self, column: usize) -> usize
+        requires { (1 ≤ column) × (column ≤ self.g.d) }
+        ensures { result ≡ packet_start self.g self.node column }
+    {
+        (column - 1) * self.widened()
+    }
 
-// L', the letters of the piece that a helper sends for the lost node.
-pub fn repair(g: Group, lost: usize) -> usize
-    requires { NodeOf g lost }
-    ensures { result ≡ repair_letters g lost }
-{
-    widened(g, lost)
-}
+    // T, the letters that the node holds.
+    pub fn letters(self) -> usize
+        ensures { result ≡ node_letters self.g self.node }
+    {
+        self.g.d * self.widened()
+    }
 
-// The letters of the buffer in which the lost node is repaired: d pieces of L'.
-pub fn repair_buffer(g: Group, lost: usize) -> usize
-    requires { NodeOf g lost }
-    ensures { result ≡ repair_buffer g lost }
-{
-    g.d * repair(g, lost)
+    // L', the letters of the piece that a helper sends for the node, if it is lost.
+    pub fn repair_letters(self) -> usize
+        ensures { result ≡ repair_letters self.g self.node }
+    {
+        self.widened()
+    }
+
+    // The letters of the buffer in which it is repaired: d pieces of L'.
+    pub fn repair_buffer(self) -> usize
+        ensures { result ≡ repair_buffer self.g self.node }
+    {
+        self.g.d * self.repair_letters()
+    }
 }

@@ -8,6 +8,7 @@ ghost use Rattle.group.specs.Ranges.{group_refusal, node_refusal};
 ghost use Rattle.lengths.specs.Lengths.{file_letters, node_letters, repair_letters};
 
 use group::{Group, Refusal};
+use known::Member;
 
 // The letters of a file, B*L. Refusals: 1, 2.
 pub fn file_letters(g: Group) -> Result<usize, Refusal>
@@ -22,7 +23,7 @@ pub fn packet_letters(g: Group, node: usize) -> Result<usize, Refusal>
     ensures { Answers result (node_refusal g node) (node_letters g node) }
 {
     group_checks::node(g, node)?;
-    Ok(known::node(g, node))
+    Ok(Member { g, node }.letters())
 }
 
 // The letters of the piece that a helper sends for the lost node, L'. Refusals: 1, 2, 3.
@@ -30,5 +31,5 @@ pub fn repair_letters(g: Group, lost: usize) -> Result<usize, Refusal>
     ensures { Answers result (node_refusal g lost) (repair_letters g lost) }
 {
     group_checks::node(g, lost)?;
-    Ok(known::repair(g, lost))
+    Ok(Member { g, node: lost }.repair_letters())
 }

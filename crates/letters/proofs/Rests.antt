@@ -1,6 +1,6 @@
 -- What blocks leave over of a run: twice as wide, they leave as much over or a block more.
 use mathlib.Core.Path.{◌≡◌, refl, sym, ◌∙◌}
-use Prim.Native.Nat.{ℕ, ◌+◌, ◌-◌, ◌%◌, ◌≤◌, ◌<◌}
+use Prim.Native.Nat.{ℕ, ◌+◌, ◌-◌, ◌*◌, ◌/◌, ◌%◌, ◌≤◌, ◌<◌}
 use native.Mathlib.Nat.{add-zero, mod-le, mod-lt, mod-eq_of_lt, mod-eq-sub-mod, mod-mod_of_dvd, dvd-add, dvd_refl}
 use native.Mathlib.Omega.{arith}
 use Rattle.letters.specs.Steps.Rests.{widest_block, left_over}
@@ -50,3 +50,8 @@ rest_whole n i e = omega arith
 pub whole_blocks : (n : ℕ) → left_over n widest_block ≡ 0 → n % widest_block ≡ 0
 unfolding left_over
 whole_blocks n e = e
+
+-- the widest blocks and what they leave over are all of it
+pub all_blocks : (n start : ℕ) → start ≡ left_over n widest_block → start + n / widest_block * widest_block ≡ n
+unfolding left_over
+all_blocks n start e = omega arith

@@ -3,7 +3,7 @@ use mathlib.Core.Path.{◌≡◌, refl, sym, ap, ap₂, ◌∙◌}
 use mathlib.Core.List.{List, [], ◌∷◌, ◌++◌}
 use mathlib.Core.Logic.{⊎_elim}
 use Prim.Native.Nat.{ℕ, zero, suc, ◌+◌, ◌-◌, ◌≤◌, ◌<◌}
-use native.Mathlib.Nat.{sub-zero, suc-sub-suc}
+use native.Mathlib.Nat.{add_assoc, sub-zero, suc-sub-suc}
 use native.Mathlib.Numerals.{add-one}
 use native.Mathlib.Omega.{arith}
 use lib.ListN.{length, get_or, take, drop, set, length-append, length-take, length-drop, take-append-drop, get_or-eq_default, get_or-append}
@@ -196,23 +196,13 @@ module _ {A : Type 0} (𝓐 : Adding A) where
       → zs ≡ added 𝓐 ys (at + i) (take c (drop i run)) → zs ≡ added 𝓐 xs at (take (i + c) run)
   added_then xs ys zs at run i c h before step = step ∙ rw before (added_on xs at run i c h)
 
-  -- the same from a letter of the run on
-  pub added_past :
-      (xs ys zs : List A) (at : ℕ) (run : List A) (s i c : ℕ) → s ≤ i → i ≤ length run → ys ≡ added 𝓐 xs (at + s) (take (i - s) (drop s run))
-      → zs ≡ added 𝓐 ys (at + i) (take c (drop i run)) → zs ≡ added 𝓐 xs (at + s) (take (i + c - s) (drop s run))
-  added_past xs ys zs at run s i c order h before step =
-      added_then xs ys zs (at + s) (drop s run) (i - s) c (simp length-drop (omega arith)) before
-      (step ∙ ap₂ (added 𝓐 ys) place (ap (take c) (ap (λ n. drop n run) back ∙ sym (drop-drop (i - s) s run))))
-      ∙ ap (λ n. added 𝓐 xs (at + s) (take n (drop s run))) further
-    where
-      place : at + i ≡ at + s + (i - s)
-      place = omega arith
-
-      back : i ≡ s + (i - s)
-      back = omega arith
-
-      further : i - s + c ≡ i + c - s
-      further = omega arith
+  -- the same of a run that begins at its letter s
+  pub added_further :
+      (xs ys zs : List A) (at : ℕ) (run : List A) (s n c : ℕ) → s + n ≤ length run → ys ≡ added 𝓐 xs (at + s) (take n (drop s run))
+      → zs ≡ added 𝓐 ys (at + (s + n)) (take c (drop (s + n) run)) → zs ≡ added 𝓐 xs (at + s) (take (n + c) (drop s run))
+  added_further xs ys zs at run s n c h before step =
+      added_then xs ys zs (at + s) (drop s run) n c (simp length-drop (omega arith)) before
+      (step ∙ ap₂ (added 𝓐 ys) (sym (add_assoc at s n)) (ap (take c) (sym (drop-drop n s run))))
 
   -- and the rest of it at last
   pub added_whole :
@@ -235,3 +225,22 @@ module _ {A : Type 0} (𝓐 : Adding A) where
       get_or-drop a (added 𝓐 xs at ys) i 𝓐.none
       ∙ added_after xs at ys (a + i) (omega arith) (omega arith)
       ∙ sym (get_or-drop a xs i 𝓐.none))
+
+  front_xored : (xs : List A) (n : ℕ) (ys : List A) → length ys ≤ n → xored 𝓐 (take n xs) ys ++ drop n xs ≡ xored 𝓐 xs ys
+  unfolding xored
+  front_xored [] zero ys h = refl
+  front_xored [] (suc n) ys h = refl
+  front_xored (x ∷ xs) zero [] h = refl
+  front_xored (x ∷ xs) (suc n) [] h = ap (λ l. x ∷ l) (take-append-drop n xs)
+  front_xored (x ∷ xs) zero (y ∷ ys) h = absurd (omega arith)
+  front_xored (x ∷ xs) (suc n) (y ∷ ys) h = ap (λ l. 𝓐.plus x y ∷ l) (front_xored xs n ys (omega arith))
+
+  -- a run that lies in the front of a list is added into the front alone
+  pub added_front :
+      (xs : List A) (n at : ℕ) (ys : List A) → at + length ys ≤ n → added 𝓐 (take n xs) at ys ++ drop n xs ≡ added 𝓐 xs at ys
+  unfolding added xored
+  added_front xs n zero ys h = front_xored xs n ys (omega arith)
+  added_front [] zero (suc at) ys h = refl
+  added_front [] (suc n) (suc at) ys h = refl
+  added_front (x ∷ xs) zero (suc at) ys h = absurd (omega arith)
+  added_front (x ∷ xs) (suc n) (suc at) ys h = ap (λ l. x ∷ l) (added_front xs n at ys (omega arith))

@@ -9,8 +9,5 @@ ghost use Rattle.std.specs.Prelude.{◌≡◌, min};
 pub fn lesser(a: usize, b: usize) -> usize
     ensures { result ≡ min a b }
 {
-    if a < b {
-        return a;
-    }
-    b
+    a.min(b)
 }

@@ -7,10 +7,9 @@ pub fn copy(from: &[u8], start: usize, to: &mut [u8], at: usize, count: usize)
     requires { (start + count ≤ length from.now) × (at + count ≤ length to.old) }
     ensures { Laid to.old to.new at (at + count) (λ p. get_or from.now (start + (p - at)) 0) }
 {
-    let mut i = 0;
-    while i < count {
+    // Not copy_from_slice: where the letters are a local block's, the compiler then asks at every call whether it overlaps `to`.
+    for i in 0..count {
         to[at + i] = from[start + i];
-        i += 1;
     }
 }
 
@@ -19,9 +18,5 @@ pub fn clear(to: &mut [u8], at: usize, end: usize)
     requires { (at ≤ end) × (end ≤ length to.old) }
     ensures { Laid to.old to.new at end (λ p. 0) }
 {
-    let mut i = at;
-    while i < end {
-        to[i] = 0;
-        i += 1;
-    }
+    to[at..end].fill(0);
 }

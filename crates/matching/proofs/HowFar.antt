@@ -1,5 +1,5 @@
 -- How far letters are the right ones: none yet, one more, a part more, up to the first that isn't.
-use mathlib.Core.Path.{◌≡◌, sym, ap, subst, ◌∙◌}
+use mathlib.Core.Path.{◌≡◌, sym, ap, ◌∙◌}
 use mathlib.Core.List.{List}
 use mathlib.Core.Logic.{⊎_elim}
 use Prim.Native.Nat.{ℕ, ◌+◌, ◌-◌, ◌≤◌, ◌<◌}
@@ -7,7 +7,7 @@ use native.Mathlib.Nat.{zero-add}
 use native.Mathlib.Omega.{arith}
 use lib.ListN.{length, get_or}
 use Rattle.letters.specs.Steps.Rests.{widest_block}
-use Rattle.letters.proofs.Cases.{le_or_lt, eq_or_ne}
+use Rattle.letters.proofs.Cases.{le_or_lt}
 use Rattle.sums.specs.Sums.{sum_at, BlockOf}
 use Rattle.matching.specs.Same.{SamePart, SameTo, SameFor}
 
@@ -23,25 +23,6 @@ module _ (held : List ℕ) (right : ℕ → ℕ) where
         same = λ q lo hi. ⊎_elim (λ l. part.same q l hi) (λ l. front.same q (omega arith) (omega arith)) (le_or_lt a q);
       }
 
-  -- the last part
-  pub same_last : (a b m n : ℕ) → a ≤ m → b ≡ n → SameTo held right m → SamePart held right a b → SameTo held right n
-  same_last a b m n h e front part = subst (SameTo held right) e (same_on a b m h front part)
-
-  pub same_more : (m : ℕ) → m < length held → SameTo held right m → get_or held m 0 ≡ right m → SameTo held right (m + 1)
-  same_more m h front e =
-      same_on m (m + 1) m (omega arith) front
-      (record {
-        within = omega arith;
-        same =
-            λ q lo hi.
-            let is : q ≡ m = omega arith in
-            ap (λ i. get_or held i 0) is ∙ e ∙ ap right (sym is);
-      })
-
-  -- the next one isn't the right one
-  pub same_until : (m : ℕ) → SameTo held right m → (get_or held m 0 ≡ right m → ⊥) → SameFor held right m
-  same_until m front wrong = record { to = front; ends = λ h. wrong }
-
   -- there is no next one
   pub same_all : (m : ℕ) → SameTo held right m → length held ≤ m → SameFor held right m
   same_all m front h = record { to = front; ends = λ l e. omega arith }
@@ -56,26 +37,6 @@ same_list held block all =
 pub record CountedSame (held block : List ℕ) (at n same : ℕ) : Type 0 where
   pub few : same ≤ n
   pub all : same ≡ n → (q : ℕ) → q < n → get_or held (at + q) 0 ≡ get_or block q 0
-
-module _ (held block : List ℕ) (at : ℕ) where
-  pub counted_none : CountedSame held block at 0 0
-  counted_none = record { few = omega arith; all = λ e q h. absurd (omega arith) }
-
-  pub counted_same : (n same : ℕ) → CountedSame held block at n same → get_or held (at + n) 0 ≡ get_or block n 0 → CountedSame held block at (n + 1) (same + 1)
-  counted_same n same c e =
-      record {
-        few = omega (arith, c.few);
-        all =
-            λ full q h.
-            ⊎_elim (λ is. ap (λ i. get_or held (at + i) 0) is ∙ e ∙ ap (λ i. get_or block i 0) (sym is)) (λ ne. c.all (omega arith) q (omega arith))
-            (eq_or_ne q n);
-      }
-
-  pub counted_other : (n same : ℕ) → CountedSame held block at n same → CountedSame held block at (n + 1) same
-  counted_other n same c = record { few = omega (arith, c.few); all = λ full q h. absurd (omega (arith, c.few)) }
-
-  pub counted_all : (n same m : ℕ) → CountedSame held block at n same → n ≡ m → same ≡ m → (q : ℕ) → q < m → get_or held (at + q) 0 ≡ get_or block q 0
-  counted_all n same m c e full q h = c.all (omega arith) q (omega arith)
 
 -- a block of the sum whose letters are all there
 pub block_same :

@@ -9,11 +9,11 @@ ghost use Rattle.std.specs.Prelude.{length};
 ghost use Rattle.sums.specs.Sums.{sum_at, RunsInside};
 ghost use Rattle.matching.specs.Same.{SameFor};
 
-// How many letters of `held`, from the front, are those of the sum of `sources` runs of `from`, of which the first start at the indices in `starts`.
-pub fn same(held: &[u8], from: &[u8], starts: &[usize], sources: usize) -> usize
-    requires { RunsInside starts.now sources (length held.now) (length from.now) }
-    ensures { SameFor held.now (sum_at from.now starts.now sources) result }
+// How many letters of `held`, from the front, are those of the sum of the runs of `from` that start at these indices.
+pub fn same(held: &[u8], from: &[u8], starts: &[usize]) -> usize
+    requires { RunsInside starts.now (length starts.now) (length held.now) (length from.now) }
+    ensures { SameFor held.now (sum_at from.now starts.now (length starts.now)) result }
 {
-    let at = blocks::same_blocks(held, from, starts, sources);
-    one_by_one::same_letters(held, from, starts, sources, at)
+    let at = blocks::same_blocks(held, from, starts);
+    one_by_one::same_letters(held, from, starts, at)
 }

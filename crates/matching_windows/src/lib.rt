@@ -59,7 +59,7 @@ fn middle(held: &[u8], runs: &Moved, skip: usize) -> usize
     ensures { let m = runs.now in SameFor held.now (seen_letter m.from.now m.starts.now m.leads.now (length m.starts.now) m.size skip) result }
 {
     let seen = runs.seen_starts(skip);
-    matching::same(held, runs.from, &seen, runs.starts.len())
+    matching::same(held, runs.from, &seen[..runs.starts.len()])
 }
 
 // How many letters of `held`, from the front, are those of the sum, of which all runs have a letter from index `front` up to `back`.

@@ -37,7 +37,7 @@ pub fn next_start(g: Group, row: usize, column: usize, start: usize) -> usize
     if row < column {
         return start + g.l;
     }
-    start + letters::lesser(row, g.k) * g.l
+    start + row.min(g.k) * g.l
 }
 
 // Where the entries of a column start, row by row from the first to the d-th.
@@ -47,11 +47,9 @@ pub fn column_starts(g: Group, column: usize) -> [usize; 16]
 {
     let mut starts = [0usize; 16];
     let mut start = free_start(g, 1, column);
-    let mut row = 0;
-    while row < g.d {
+    for row in 0..g.d {
         starts[row] = start;
-        row += 1;
-        start = next_start(g, row, column, start);
+        start = next_start(g, row + 1, column, start);
     }
     starts
 }

@@ -1,40 +1,38 @@
-// Which file the share of each node is in: at index i the number of the argument that names node i's, and 0 where there is none. Index 0 isn't used.
+// Which file the share of each node is in.
 
-// The file of a node.
-pub fn of_node(files: &[usize; 17], node: usize) -> usize {
-    if node < 17 { files[node] } else { 0 }
-}
+// At index i the number of the argument that names the file of node i+1.
+#[derive(Clone, Copy)]
+pub struct Table([Option<usize>; 16]);
 
-// A node's share is in this file.
-pub fn keep(files: &mut [usize; 17], node: usize, nth: usize) {
-    if node < 17 {
-        files[node] = nth;
+impl Table {
+    // No node has a file.
+    pub fn empty() -> Table {
+        Table([None; 16])
     }
-}
 
-// The node whose share is in this file; 0 where there is none.
-pub fn node_in(files: &[usize; 17], nth: usize) -> usize {
-    let mut node = 16;
-    while node > 0 {
-        if of_node(files, node) == nth {
-            return node;
+    // The file of a node.
+    pub fn of_node(&self, node: usize) -> Option<usize> {
+        let index = node.checked_sub(1)?;
+        *self.0.get(index)?
+    }
+
+    // A node's share is in this file.
+    pub fn keep(&mut self, node: usize, nth: usize) {
+        if let Some(index) = node.checked_sub(1)
+            && let Some(file) = self.0.get_mut(index)
+        {
+            *file = Some(nth);
         }
-        node -= 1;
     }
-    0
-}
 
-// How many nodes have a file.
-pub fn count(files: &[usize; 17]) -> usize {
-    let mut count = 0;
-    let mut node = 1;
-    while node < 17 {
-        if of_node(files, node) == 0 {
-            node += 1;
-            continue;
-        }
-        count += 1;
-        node += 1;
+    // The node whose share is in this file.
+    pub fn node_in(&self, nth: usize) -> Option<usize> {
+        let index = self.0.iter().position(|file| *file == Some(nth))?;
+        Some(index + 1)
     }
-    count
+
+    // How many nodes have a file.
+    pub fn count(&self) -> usize {
+        self.0.iter().flatten().count()
+    }
 }

@@ -1,51 +1,44 @@
-// Whether the shares of a batch can be compared: they are enough, and there is room for their letters. What is in the way is said here.
+// Whether the shares of a batch can be compared: they are enough, and there is room for their letters. What is in the way is handed back.
 use group::Group;
 use heads::{Head, bytes as head_bytes};
-use odd_files::{batch, table};
+use odd_files::batch;
+use odd_files::table::Table;
+use odd_problems::Problem;
 
-// How many letters this node has to be read; none where it has no file.
-fn letters_of(head: Head, files: &[usize; 17], node: usize) -> usize {
-    if table::of_node(files, node) == 0 {
-        return 0;
-    }
-    head_bytes::total(batch::head_of(head, node))
-}
-
-// The same of all nodes.
-fn letters(head: Head, files: &[usize; 17]) -> usize {
-    let mut letters = 0;
-    let mut node = 16;
-    while node > 0 {
-        letters = crate::after(letters, letters_of(head, files, node));
-        node -= 1;
+// How many letters all nodes that have a file have.
+fn letters(head: Head, files: &Table) -> usize {
+    let mut letters: usize = 0;
+    for node in 1..17 {
+        if files.of_node(node).is_some() {
+            letters = letters.saturating_add(head_bytes::total(batch::head_of(head, node)));
+        }
     }
     letters
 }
 
 // There are as many nodes as it takes, k+2.
-fn enough(g: Group, here: usize) -> bool {
-    if g.n < 2 || g.n - 2 < g.k {
-        odd_problems::never_enough(g);
-        return false;
+fn enough(g: Group, here: usize) -> Result<(), Problem> {
+    let wanted = g.k.saturating_add(2);
+    if g.n < wanted {
+        return Err(Problem::NeverEnough(g));
     }
-    if here < 2 || here - 2 < g.k {
-        odd_problems::too_few(g.k, here);
-        return false;
+    if here < wanted {
+        return Err(Problem::TooFew { k: g.k, here });
     }
-    true
+    Ok(())
 }
 
 // The memories have room for all packets and for the file.
-fn has_room(head: Head, files: &[usize; 17], packets: usize, file: usize) -> bool {
-    let letters = letters(head, files);
-    if packets < letters || file < lines::value(lengths::file_letters(head.group)) {
-        odd_problems::long_batch(packets);
-        return false;
+fn has_room(head: Head, files: &Table, packets: usize, file: usize) -> Result<(), Problem> {
+    let file_letters = lengths::file_letters(head.group).unwrap_or(0);
+    if packets < letters(head, files) || file < file_letters {
+        return Err(Problem::LongBatch(packets));
     }
-    true
+    Ok(())
 }
 
 // Both.
-pub fn fits(head: Head, files: &[usize; 17], packets: usize, file: usize) -> bool {
-    enough(head.group, table::count(files)) && has_room(head, files, packets, file)
+pub fn fits(head: Head, files: &Table, packets: usize, file: usize) -> Result<(), Problem> {
+    enough(head.group, files.count())?;
+    has_room(head, files, packets, file)
 }

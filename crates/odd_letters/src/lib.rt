@@ -3,8 +3,3 @@
 
 pub mod fitting;
 pub mod gathering;
-
-// An index so many further on. (Both are small; that needn't be proved.)
-fn after(at: usize, count: usize) -> usize {
-    at % 4294967296 + count % 4294967296
-}

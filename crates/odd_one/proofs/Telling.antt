@@ -4,19 +4,20 @@ use mathlib.Core.Path.{◌≡◌, refl, sym, ap, subst, ◌∙◌, fun_ext}
 use mathlib.Core.List.{List}
 use mathlib.Core.Logic.{⊎_elim}
 use Prim.Native.Nat.{ℕ, zero, suc, ◌≤◌, ◌<◌}
-use lib.ListN.{length}
+use lib.ListN.{length, replicate, get_or}
+use Rattle.std.proofs.lemmas.List.{get_or-replicate}
 use borrow.Author.Tests.{eq-eqb, ne_eqb}
-use Rattle.letters.specs.Laid.{Laid}
 use Rattle.letters.proofs.Cases.{eq_or_ne}
 use Rattle.group.specs.declared.Group.{Group}
 use Rattle.group.specs.declared.Refusal.{Refusal}
-use Rattle.group.specs.declared.Check.{Check}
 use Rattle.group.specs.Answers.{refusal_number, check_number}
 use Rattle.group.proofs.Refusals.{never_zero}
 use Rattle.lengths.specs.Lengths.{file_letters}
 use Rattle.sequences.specs.Lists.{ranked}
 use Rattle.sequences.proofs.Lists.{is_run}
+use Rattle.std.specs.Prelude.{Ok, Err}
 use Rattle.comparing_nodes.specs.declared.Found.{Found}
+use Rattle.comparing_nodes.specs.Steps.Noting.{wrong_of, rank_of, place_of}
 use Rattle.trying.specs.Searched.{Searched}
 use Rattle.odd_report.specs.declared.Standing.{Standing}
 use Rattle.odd_report.specs.declared.Standing.TheVariants.{Agreeing, Unknown}
@@ -30,7 +31,7 @@ use Rattle.odd_report.proofs.Standings.{by_several, by_none, by_odd, by_other, o
 -- a refused call
 pub refused_reports :
     (g : Group) (ids handed before : List ℕ) (refusal : Refusal) (r : Report) → refusal_number refusal ≡ odd_refusal g ids (length handed) (length before)
-    → (r.check ≡ Check.Refused refusal) × (r.nodes ≡ all_absent) → Reports g ids handed before before r
+    → (r.check ≡ Err refusal) × (r.nodes ≡ all_absent) → Reports g ids handed before before r
 refused_reports g ids handed before refusal r e w = go (odd_refusal g ids (length handed) (length before)) refl
   where
     go : (q : ℕ) → odd_refusal g ids (length handed) (length before) ≡ q → Reports g ids handed before before r
@@ -38,11 +39,11 @@ refused_reports g ids handed before refusal r e w = go (odd_refusal g ids (lengt
     go (suc q) is = Reports.refused q is (ap check_number w.0 ∙ e ∙ is) w.1 refl
 
 -- where one is wrong, its rank is one of the ids'
-pub named_rank : (g : Group) (ids handed file : List ℕ) (found : Found) → Searched g ids handed file found.wrong found.rank found.place → Named ids found
+pub named_rank : (g : Group) (ids handed file : List ℕ) (found : Found) → Searched g ids handed file (wrong_of found) (rank_of found) (place_of found) → Named ids found
 named_rank g ids handed file found s =
     record {
-      low = λ e. (one found.wrong found.rank found.place e s).0;
-      high = λ e. (one found.wrong found.rank found.place e s).1;
+      low = λ e. (one (wrong_of found) (rank_of found) (place_of found) e s).0;
+      high = λ e. (one (wrong_of found) (rank_of found) (place_of found) e s).1;
     }
   where
     one : (w c p : ℕ) → w ≡ 1 → Searched g ids handed file w c p → (1 ≤ c) × (c ≤ length ids)
@@ -51,10 +52,10 @@ named_rank g ids handed file found s =
     one w c p e (Searched.several _ _ several) = absurd (omega arith)
 
 -- a buffer that was cleared is a file of zeros
-pub cleared : (g : Group) (before after : List ℕ) (end : ℕ) → length before ≡ file_letters g → end ≡ length before → Laid before after 0 end (λ p. 0) → after ≡ zero_file g
+pub cleared : (g : Group) (before after : List ℕ) → length before ≡ file_letters g → length after ≡ length before → after ≡ replicate (length before) 0 → after ≡ zero_file g
 unfolding zero_file
-cleared g before after end long e laid =
-    is_run 0 (file_letters g) (λ p. 0) after (laid.same_length ∙ long) (λ q h. laid.laid q (omega arith) (omega arith))
+cleared g before after long same zeros =
+    is_run 0 (file_letters g) (λ p. 0) after (same ∙ long) (λ q h. ap (λ xs. get_or xs q 0) zeros ∙ get_or-replicate (length before) q 0 0 (omega arith))
 
 module _ (g : Group) (ids handed : List ℕ) where
   -- two standings that are the same for every node
@@ -88,17 +89,17 @@ module _ (g : Group) (ids handed : List ℕ) where
 
   -- a call that isn't refused
   module _ (before : List ℕ) (fine : odd_refusal g ids (length handed) (length before) ≡ 0) (found : Found) (r : Report)
-      (w : (r.check ≡ Check.Fine) × (r.nodes ≡ nodes_where ids (standing_by found.wrong (odd_id ids found) found.place))) where
+      (w : (r.check ≡ Ok tt) × (r.nodes ≡ nodes_where ids (standing_by (wrong_of found) (odd_id ids found) (place_of found)))) where
     pub settled_reports :
-        (after : List ℕ) → found.wrong < 2 → Searched g ids handed after found.wrong found.rank found.place → Reports g ids handed before after r
+        (after : List ℕ) → (wrong_of found) < 2 → Searched g ids handed after (wrong_of found) (rank_of found) (place_of found) → Reports g ids handed before after r
     settled_reports after few s =
-        Reports.answered (standing_by found.wrong (odd_id ids found) found.place) fine (ap check_number w.0) w.1
-        (settled found.wrong found.rank found.place after (odd_id ids found) few (λ e. odd_named ids found e) s)
+        Reports.answered (standing_by (wrong_of found) (odd_id ids found) (place_of found)) fine (ap check_number w.0) w.1
+        (settled (wrong_of found) (rank_of found) (place_of found) after (odd_id ids found) few (λ e. odd_named ids found e) s)
 
     pub unsettled_reports :
-        (file after : List ℕ) → 2 ≤ found.wrong → Searched g ids handed file found.wrong found.rank found.place → after ≡ zero_file g
+        (file after : List ℕ) → 2 ≤ (wrong_of found) → Searched g ids handed file (wrong_of found) (rank_of found) (place_of found) → after ≡ zero_file g
         → Reports g ids handed before after r
     unsettled_reports file after more s zeros =
-        Reports.answered (standing_by found.wrong (odd_id ids found) found.place) fine (ap check_number w.0) w.1
-        (subst (Shows g ids handed (standing_by found.wrong (odd_id ids found) found.place)) (sym zeros)
-        (unsettled found.wrong found.rank found.place file (odd_id ids found) more s))
+        Reports.answered (standing_by (wrong_of found) (odd_id ids found) (place_of found)) fine (ap check_number w.0) w.1
+        (subst (Shows g ids handed (standing_by (wrong_of found) (odd_id ids found) (place_of found))) (sym zeros)
+        (unsettled (wrong_of found) (rank_of found) (place_of found) file (odd_id ids found) more s))

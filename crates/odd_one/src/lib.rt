@@ -5,10 +5,12 @@ ghost use Rattle.std.specs.Prelude.{◌≡◌, length};
 ghost use Rattle.odd_checks.specs.Refusals.{odd_refusal};
 ghost use Rattle.odd_one.specs.Calls.{Reports};
 
-use group::{Check, Group};
+use comparing_nodes::Found;
+use group::Group;
 pub use odd_checks::check;
 use odd_report::reporting;
 pub use odd_report::{Node, Report, Standing};
+use present::Nodes;
 use trying::search;
 
 // Says of each node whether it agrees with the others. `ids` are those of the present nodes, falling, and `packets` holds what they hold, one node after another in that order.
@@ -19,8 +21,8 @@ pub fn find(g: Group, ids: &[usize], packets: &[u8], file: &mut [u8]) -> Report
     ensures { Reports g ids.now packets.now file.old file.new result }
 {
     match check(g, ids, packets.len(), file.len()) {
-        Check::Refused(refusal) => reporting::refused(refusal),
-        Check::Fine => find_present(g, ids, packets, file),
+        Err(refusal) => reporting::refused(refusal),
+        Ok(()) => find_present(g, ids, packets, file),
     }
 }
 
@@ -30,10 +32,15 @@ fn find_present(g: Group, ids: &[usize], packets: &[u8], file: &mut [u8]) -> Rep
     ensures { Reports g ids.now packets.now file.old file.new result }
 {
     let starts = present::starts(g, ids);
-    let found = search::search(g, ids, &starts, packets, file);
-    if found.wrong < 2 {
-        return reporting::told(ids, found);
+    let nodes = Nodes {
+        g,
+        ids,
+        starts: &starts,
+        packets,
+    };
+    let found = search::search(&nodes, file);
+    if found == Found::Several {
+        file.fill(0);
     }
-    letters::moving::clear(file, 0, file.len());
     reporting::told(ids, found)
 }

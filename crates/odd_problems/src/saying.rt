@@ -1,36 +1,66 @@
-// Words, numbers and names of files, on the descriptor `to`: standard output or standard error.
+// What stands in a line beside words and numbers: a file's name, a group, a batch.
+use group::Group;
 use heads::Head;
+use std::fmt::{Display, Formatter, InlineText, Result, Write};
+use std::io::Error;
 use std::rt::Env;
 
-// Writes these words.
-pub fn say(to: i32, words: &[u8]) {
-    io::write_all(to, words);
-}
-
-// Some words and a number after them.
-pub fn number(to: i32, words: &[u8], n: usize) {
-    say(to, words);
-    io::print_decimal(to, n as u64);
-}
-
 // The name of a file: the argument with this number.
-pub fn name(env: &impl Env, to: i32, nth: usize) {
-    let mut path = io::buffer();
-    let count = env.arg(nth, &mut path).unwrap_or(0);
-    say(to, &path[..count]);
+#[derive_where(Clone, Copy)]
+pub struct Name<'a, E>(pub &'a E, pub usize);
+
+impl<'a, E: Env> Display for Name<'a, E> {
+    fn fmt<W: Write>(&self, f: &mut Formatter<W>) -> Result {
+        let mut name = io::buffer();
+        let count = self.0.arg(self.1, &mut name).unwrap_or(0);
+        f.write_str(str::from_utf8(&name[..count]).unwrap_or(""))
+    }
 }
 
-// A group, but for its last bracket, which begins what comes next: `[6,3,4`.
-pub fn group(to: i32, n: usize, k: usize, d: usize) {
-    number(to, b"[", n);
-    number(to, b",", k);
-    number(to, b",", d);
+// What an error says, without the number of the system's error, which stands behind that.
+#[derive(Drop)]
+pub struct Reason(pub Error);
+
+impl Display for Reason {
+    fn fmt<W: Write>(&self, f: &mut Formatter<W>) -> Result {
+        let text = InlineText::<128>::of(&self.0);
+        let all = text.as_str();
+        let words = all
+            .split_once(" (os error ")
+            .map_or(all, |(words, _)| words);
+        f.write_str(words)
+    }
+}
+
+// A group: `[6,3,4]`.
+#[derive(Clone, Copy)]
+pub struct Numbers(pub Group);
+
+impl Display for Numbers {
+    fn fmt<W: Write>(&self, f: &mut Formatter<W>) -> Result {
+        let Group { n, k, d, .. } = self.0;
+        write!(f, "[{n},{k},{d}]")
+    }
 }
 
 // A batch: `[6,3,4], L = 20, batch 7`.
-pub fn batch(to: i32, head: Head) {
-    let g = head.group;
-    group(to, g.n, g.k, g.d);
-    number(to, b"], L = ", g.l);
-    number(to, b", batch ", head.batch as usize);
+#[derive(Clone, Copy)]
+pub struct Batch(pub Head);
+
+impl Display for Batch {
+    fn fmt<W: Write>(&self, f: &mut Formatter<W>) -> Result {
+        let Head { group, batch, .. } = self.0;
+        write!(f, "{}, L = {}, batch {batch}", Numbers(group), group.l)
+    }
+}
+
+// So many nodes are wanted: `k+2 = 5 nodes`.
+#[derive(Clone, Copy)]
+pub struct Wanted(pub usize);
+
+impl Display for Wanted {
+    fn fmt<W: Write>(&self, f: &mut Formatter<W>) -> Result {
+        let nodes = self.0.saturating_add(2);
+        write!(f, "k+2 = {nodes} nodes")
+    }
 }

@@ -13,6 +13,9 @@ use Rattle.ids.specs.Ids.{among}
 use Rattle.sequences.specs.Lists.{ranked}
 use Rattle.sequences.proofs.Lists.{length_run, is_run}
 use Rattle.comparing_nodes.specs.declared.Found.{Found}
+use Rattle.comparing_nodes.specs.declared.Found.TheVariants.{Nobody, One, Several}
+use Rattle.comparing_nodes.specs.declared.Wrong.{Wrong}
+use Rattle.comparing_nodes.specs.Steps.Noting.{wrong_of, rank_of, place_of}
 use Rattle.odd_report.specs.declared.Standing.{Standing}
 use Rattle.odd_report.specs.declared.Standing.TheVariants.{Absent, Agreeing, Unknown, Odd}
 use Rattle.odd_report.specs.declared.Node.{Node}
@@ -58,13 +61,32 @@ unfolding nodes_where
 are_nodes ids standing nodes long each = is_run (node_with Absent) 16 (λ i. node_with (standing_in ids standing i)) nodes long each
 
 -- the id of the odd one
-pub odd_named : (ids : List ℕ) (found : Found) → found.wrong ≡ 1 → odd_id ids found ≡ ranked ids found.rank
+pub odd_named : (ids : List ℕ) (found : Found) → wrong_of found ≡ 1 → odd_id ids found ≡ ranked ids (rank_of found)
 unfolding odd_id
-odd_named ids found e = simp (eq-eqb found.wrong 1 e) refl
+odd_named ids found e = simp (eq-eqb (wrong_of found) 1 e) refl
 
-pub odd_none : (ids : List ℕ) (found : Found) → (found.wrong ≡ 1 → ⊥) → odd_id ids found ≡ 0
+pub odd_none : (ids : List ℕ) (found : Found) → (wrong_of found ≡ 1 → ⊥) → odd_id ids found ≡ 0
 unfolding odd_id
-odd_none ids found ne = simp (ne_eqb found.wrong 1 ne) refl
+odd_none ids found ne = simp (ne_eqb (wrong_of found) 1 ne) refl
+
+-- how a node that is present stands, by what was found
+module _ (ids : List ℕ) (i : ℕ) where
+  abbrev pub standing_after : Found → Standing
+  standing_after found = standing_by (wrong_of found) (odd_id ids found) (place_of found) i
+
+  pub after_nobody : (found : Found) → found ≡ Nobody → standing_after found ≡ Agreeing
+  after_nobody found e = by_none _ _ _ i (ap wrong_of e)
+
+  pub after_one : (found : Found) (w : Wrong) → found ≡ One w → i ≡ ranked ids w.rank → standing_after found ≡ Odd w.place
+  after_one found w e same =
+      ap standing_after e ∙ by_odd 1 (odd_id ids (One w)) w.place i (omega arith) (λ z. omega arith) (same ∙ sym (odd_named ids (One w) refl))
+
+  pub after_another : (found : Found) (w : Wrong) → found ≡ One w → (i ≡ ranked ids w.rank → ⊥) → standing_after found ≡ Agreeing
+  after_another found w e other =
+      ap standing_after e ∙ by_other 1 (odd_id ids (One w)) w.place i (omega arith) (λ z. omega arith) (λ same. other (same ∙ odd_named ids (One w) refl))
+
+  pub after_several : (found : Found) → found ≡ Several → standing_after found ≡ Unknown
+  after_several found e = ap standing_after e ∙ by_several 2 (odd_id ids Several) 0 i (omega arith)
 
 pub length_absent : length all_absent ≡ 16
 unfolding nodes_where

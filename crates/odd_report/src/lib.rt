@@ -3,10 +3,10 @@
 
 pub mod reporting;
 
-use group::Check;
+use group::Refusal;
 
 // How a node stands beside the others that are present.
-#[derive(Clone, Copy)]
+#[derive(Clone, Copy, PartialEq, Eq)]
 pub enum Standing {
     // It isn't present, or the call is refused.
     Absent,
@@ -19,14 +19,14 @@ pub enum Standing {
 }
 
 // What the report says of one node.
-#[derive(Clone, Copy)]
+#[derive(Clone, Copy, PartialEq, Eq)]
 pub struct Node {
     pub standing: Standing,
 }
 
 // What comes back: whether the call is refused, and how each of sixteen nodes stands, node i at index i - 1.
-#[derive(Clone, Copy)]
+#[derive(Clone, Copy, PartialEq, Eq)]
 pub struct Report {
-    pub check: Check,
+    pub check: Result<(), Refusal>,
     pub nodes: [Node; 16],
 }

@@ -1,12 +1,12 @@
 // The report.
-ghost use Rattle.std.specs.Prelude.{◌≡◌};
-ghost use Rattle.group.specs.declared.Check.TheVariants.{Fine, Refused};
+ghost use Rattle.std.specs.Prelude.{◌≡◌, Ok, Err};
+ghost use Rattle.comparing_nodes.specs.Steps.Noting.{wrong_of, place_of};
 ghost use Rattle.odd_report.specs.Standings.{standing_in, nodes_where, all_absent};
 ghost use Rattle.odd_report.specs.Steps.ByCount.{standing_by, odd_id, Named};
 
 use crate::{Node, Report, Standing};
 use comparing_nodes::Found;
-use group::{Check, Refusal};
+use group::Refusal;
 
 // No node is present.
 fn absent() -> [Node; 16]
@@ -20,75 +20,66 @@ fn absent() -> [Node; 16]
 
 // The report of a call that is refused.
 pub fn refused(refusal: Refusal) -> Report
-    ensures { (result.check ≡ Refused refusal) × (result.nodes ≡ all_absent) }
+    ensures { (result.check ≡ Err refusal) × (result.nodes ≡ all_absent) }
 {
     let nodes = absent();
     Report {
-        check: Check::Refused(refusal),
+        check: Err(refusal),
         nodes,
     }
 }
 
-// How a node that is present stands, where so many are wrong, and the first of them is `odd`, at this place.
-fn standing(node: usize, wrong: usize, odd: usize, place: usize) -> Standing
-    ensures { result ≡ standing_by wrong odd place node }
+// How a node that is present stands, after this was found.
+fn standing(node: usize, ids: &[usize], found: Found) -> Standing
+    requires { Named ids.now found }
+    ensures { result ≡ standing_by (wrong_of found) (odd_id ids.now found) (place_of found) node }
 {
-    if 2 <= wrong {
-        return Standing::Unknown;
+    match found {
+        Found::Nobody => Standing::Agreeing,
+        Found::One(wrong) => {
+            let odd = ids[wrong.rank - 1];
+            if node == odd {
+                Standing::Odd(wrong.place)
+            } else {
+                Standing::Agreeing
+            }
+        }
+        Found::Several => Standing::Unknown,
     }
-    if wrong == 0 {
-        return Standing::Agreeing;
-    }
-    if node == odd {
-        return Standing::Odd(place);
-    }
-    Standing::Agreeing
 }
 
 // The same for any node.
-fn standing_of(node: usize, ids: &[usize], wrong: usize, odd: usize, place: usize) -> Standing
-    ensures { result ≡ standing_in ids.now (standing_by wrong odd place) node }
+fn standing_of(node: usize, ids: &[usize], found: Found) -> Standing
+    requires { Named ids.now found }
+    ensures { result ≡ standing_in ids.now (standing_by (wrong_of found) (odd_id ids.now found) (place_of found)) node }
 {
     if ids::is_among(node, ids) {
-        return standing(node, wrong, odd, place);
+        return standing(node, ids, found);
     }
     Standing::Absent
 }
 
 // All sixteen nodes.
-fn nodes(ids: &[usize], wrong: usize, odd: usize, place: usize) -> [Node; 16]
-    ensures { result ≡ nodes_where ids.now (standing_by wrong odd place) }
+fn nodes(ids: &[usize], found: Found) -> [Node; 16]
+    requires { Named ids.now found }
+    ensures { result ≡ nodes_where ids.now (standing_by (wrong_of found) (odd_id ids.now found) (place_of found)) }
 {
     let mut nodes = absent();
-    let mut i = 0;
-    while i < 16 {
-        let standing = standing_of(i + 1, ids, wrong, odd, place);
+    for i in 0..16 {
+        let standing = standing_of(i + 1, ids, found);
         nodes[i] = Node { standing };
-        i += 1;
     }
     nodes
-}
-
-// The id of the one that is wrong, where one is.
-fn odd_id(ids: &[usize], found: Found) -> usize
-    requires { Named ids.now found }
-    ensures { result ≡ odd_id ids.now found }
-{
-    if found.wrong == 1 {
-        return ids[found.rank - 1];
-    }
-    0
 }
 
 // The report of what was found.
 pub fn told(ids: &[usize], found: Found) -> Report
     requires { Named ids.now found }
-    ensures { (result.check ≡ Fine) × (result.nodes ≡ nodes_where ids.now (standing_by found.wrong (odd_id ids.now found) found.place)) }
+    ensures { (result.check ≡ Ok tt) × (result.nodes ≡ nodes_where ids.now (standing_by (wrong_of found) (odd_id ids.now found) (place_of found))) }
 {
-    let odd = odd_id(ids, found);
-    let nodes = nodes(ids, found.wrong, odd, found.place);
+    let nodes = nodes(ids, found);
     Report {
-        check: Check::Fine,
+        check: Ok(()),
         nodes,
     }
 }

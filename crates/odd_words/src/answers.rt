@@ -1,67 +1,50 @@
-// The lines of standard output: how the node of each file stands, and the answer in the last one. tools/programs.sh gives the exit status by that.
+// The lines of standard output: how the node of each file stands, and the answer in the last one. tools/programs.sh gives the exit status by that; where a line
+// can't be written it sees no answer.
 use crate::places::Place;
-use odd_problems::saying;
+use odd_problems::saying::Name;
+use std::fmt::Display;
 use std::rt::Env;
 
-// Standard output's descriptor.
-const STDOUT: i32 = 1;
-
-// A file and its node: `a.share: node 6`.
-fn on(env: &impl Env, nth: usize, node: usize) {
-    saying::name(env, STDOUT, nth);
-    saying::number(STDOUT, b": node ", node);
+// A line on a file and its node: `a.share: node 6`, and how that stands.
+fn line_on(rt: &(impl Env + Print), nth: usize, node: usize, words: impl Display + Drop) {
+    let _ = println!(rt; "{}: node {node}{words}", Name(rt, nth));
 }
 
-pub fn agrees(env: &impl Env, nth: usize, node: usize) {
-    on(env, nth, node);
-    saying::say(STDOUT, b" agrees\n");
+pub fn agrees(rt: &(impl Env + Print), nth: usize, node: usize) {
+    line_on(rt, nth, node, " agrees");
 }
 
-pub fn unknown(env: &impl Env, nth: usize, node: usize) {
-    on(env, nth, node);
-    saying::say(STDOUT, b": can't be told\n");
+pub fn unknown(rt: &(impl Env + Print), nth: usize, node: usize) {
+    line_on(rt, nth, node, ": can't be told");
 }
 
 // Where the first wrong letter stands.
-fn wrong_letter(place: Place) {
-    saying::number(
-        STDOUT,
-        b" is odd: its first wrong letter is letter ",
-        place.letter,
+pub fn odd(rt: &(impl Env + Print), nth: usize, node: usize, place: Place) {
+    let Place {
+        packet,
+        letter,
+        index,
+    } = place;
+    line_on(
+        rt,
+        nth,
+        node,
+        format_args!(
+            " is odd: its first wrong letter is letter {letter} of packet {packet}, at index {index}, from 0, of this file"
+        ),
     );
-    saying::number(STDOUT, b" of packet ", place.packet);
-}
-
-fn wrong_byte(index: usize) {
-    saying::number(STDOUT, b", at index ", index);
-    saying::say(STDOUT, b", from 0, of this file\n");
-}
-
-pub fn odd(env: &impl Env, nth: usize, node: usize, place: Place) {
-    on(env, nth, node);
-    wrong_letter(place);
-    wrong_byte(place.index);
 }
 
 // The last line.
-pub fn all_agree(nodes: usize) {
-    saying::number(STDOUT, b"all ", nodes);
-    saying::say(STDOUT, b" nodes agree\n");
+pub fn all_agree(rt: &impl Print, nodes: usize) {
+    let _ = println!(rt; "all {nodes} nodes agree");
 }
 
-fn others(nodes: usize) -> usize {
-    if nodes == 0 { 0 } else { nodes - 1 }
+pub fn one_is_odd(rt: &impl Print, node: usize, nodes: usize) {
+    let others = nodes.saturating_sub(1);
+    let _ = println!(rt; "node {node} alone is odd: the {others} others agree");
 }
 
-pub fn one_is_odd(node: usize, nodes: usize) {
-    saying::number(STDOUT, b"node ", node);
-    saying::number(STDOUT, b" alone is odd: the ", others(nodes));
-    saying::say(STDOUT, b" others agree\n");
-}
-
-pub fn several_are_wrong() {
-    saying::say(
-        STDOUT,
-        b"more than one node is wrong: nothing can be said of any of them\n",
-    );
+pub fn several_are_wrong(rt: &impl Print) {
+    let _ = println!(rt; "more than one node is wrong: nothing can be said of any of them");
 }

@@ -1,7 +1,6 @@
 // Where a letter of a node stands: in which packet, where in it, and at which byte of the node's share.
 ghost use Rattle.std.specs.Prelude.{◌≤◌, ◌<◌};
 
-use group::Answer;
 use heads::Head;
 use records::sizes;
 
@@ -17,31 +16,29 @@ pub struct Place {
 fn packet_letters(head: Head) -> usize
     ensures { 1 ≤ result }
 {
-    match lengths::repair_letters(head.group, head.node) {
-        Answer::Refused(_) => 1,
-        Answer::Value(letters) => if letters == 0 { 1 } else { letters },
-    }
+    lengths::repair_letters(head.group, head.node)
+        .unwrap_or(1)
+        .max(1)
 }
 
 // How many letters stand before this one of a node, whose place counts from 1. No node has as many as 2^32: T has four bytes.
 fn letters_before(place: usize) -> usize
     ensures { result < 4294967296 }
 {
-    if place == 0 {
-        return 0;
-    }
-    (place - 1) % 4294967296
+    place.saturating_sub(1) % 4294967296
 }
 
 // The index in a share of the letter with so many before it: behind the head come blocks, each a byte for its kind and then its letters.
 fn index_behind(front: usize, before: usize) -> usize
-    requires { (front ≤ 13) × (before < 4294967296) }
+    requires small { front ≤ 13 }
+    requires few { before < 4294967296 }
 {
     let blocks = before / sizes::BLOCK_LETTERS;
     front + blocks * sizes::BLOCK_SIZE + 1 + before % sizes::BLOCK_LETTERS
 }
 
-// The same in the share with this head.
+// The same in a share of this kind.
+#[tactic(auto, using(kinds::proofs::RowLaws::size_small))]
 fn index_of(kind: usize, before: usize) -> usize
     requires { before < 4294967296 }
 {

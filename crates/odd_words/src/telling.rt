@@ -1,9 +1,10 @@
 // What the library's call found, in words: a line for each file, in the order of the arguments, and the answer.
 use crate::{answers, places};
-use group::Check;
 use heads::Head;
-use odd_files::{batch, input, table};
+use odd_files::table::Table;
+use odd_files::{batch, input};
 use odd_one::{Report, Standing};
+use odd_problems::Problem;
 use std::rt::Env;
 
 // What the lines so far come to.
@@ -14,22 +15,17 @@ enum Outcome {
     SeveralAreWrong,
 }
 
-// How a node stands.
-fn standing_of(report: Report, node: usize) -> Standing {
-    if node == 0 {
-        return Standing::Absent;
+// How a node stands. Nodes count from 1, so that 0 has no place.
+fn standing_of(report: &Report, node: usize) -> Standing {
+    match report.nodes.get(node.wrapping_sub(1)) {
+        Some(found) => found.standing,
+        None => Standing::Absent,
     }
-    if 16 < node {
-        return Standing::Absent;
-    }
-    let nodes = report.nodes;
-    let found = nodes[node - 1];
-    found.standing
 }
 
 // The line of a file, whose share has this head.
 fn tell_file(
-    env: &impl Env,
+    rt: &(impl Env + Print),
     outcome: Outcome,
     nth: usize,
     head: Head,
@@ -38,51 +34,50 @@ fn tell_file(
     match standing {
         Standing::Absent => outcome,
         Standing::Agreeing => {
-            answers::agrees(env, nth, head.node);
+            answers::agrees(rt, nth, head.node);
             outcome
         }
         Standing::Unknown => {
-            answers::unknown(env, nth, head.node);
+            answers::unknown(rt, nth, head.node);
             Outcome::SeveralAreWrong
         }
         Standing::Odd(place) => {
-            answers::odd(env, nth, head.node, places::of(head, place));
+            answers::odd(rt, nth, head.node, places::of(head, place));
             Outcome::OneIsOdd(head.node)
         }
     }
 }
 
 // The lines of all files.
-fn tell_files(env: &impl Env, head: Head, files: &[usize; 17], report: Report) -> Outcome {
-    let end = input::arg_count(env);
+fn tell_files(rt: &(impl Env + Print), head: Head, files: &Table, report: &Report) -> Outcome {
     let mut outcome = Outcome::AllAgree;
-    let mut nth = 1;
-    while nth < end {
-        let node = table::node_in(files, nth);
-        let standing = standing_of(report, node);
-        outcome = tell_file(env, outcome, nth, batch::head_of(head, node), standing);
-        nth += 1;
+    for nth in 1..input::arg_count(rt) {
+        if let Some(node) = files.node_in(nth) {
+            let own = batch::head_of(head, node);
+            outcome = tell_file(rt, outcome, nth, own, standing_of(report, node));
+        }
     }
     outcome
 }
 
 // The last line.
-fn tell_outcome(outcome: Outcome, nodes: usize) {
+fn tell_outcome(rt: &impl Print, outcome: Outcome, nodes: usize) {
     match outcome {
-        Outcome::AllAgree => answers::all_agree(nodes),
-        Outcome::OneIsOdd(node) => answers::one_is_odd(node, nodes),
-        Outcome::SeveralAreWrong => answers::several_are_wrong(),
+        Outcome::AllAgree => answers::all_agree(rt, nodes),
+        Outcome::OneIsOdd(node) => answers::one_is_odd(rt, node, nodes),
+        Outcome::SeveralAreWrong => answers::several_are_wrong(rt),
     }
 }
 
-// All lines. A refusal is said, and nothing else.
-pub fn tell(env: &impl Env, head: Head, files: &[usize; 17], report: Report) {
-    let check = report.check;
-    match check {
-        Check::Refused(refusal) => odd_problems::refused(group::refusal_number(refusal)),
-        Check::Fine => {
-            let outcome = tell_files(env, head, files, report);
-            tell_outcome(outcome, table::count(files));
-        }
-    }
+// All lines. Where the call refuses there are none.
+pub fn tell(
+    rt: &(impl Env + Print),
+    head: Head,
+    files: &Table,
+    report: &Report,
+) -> Result<(), Problem> {
+    report.check?;
+    let outcome = tell_files(rt, head, files, report);
+    tell_outcome(rt, outcome, files.count());
+    Ok(())
 }

@@ -50,26 +50,13 @@ fn byte_fits(head: Head, at: usize, offset: usize) -> bool
 fn blank(head: Head) -> bool
     ensures { (result ≡ true) ↔ Blank head }
 {
-    let g = head.group;
-    if head.kind != 0 {
-        return false;
-    }
-    if g.n != 0 {
-        return false;
-    }
-    if g.k != 0 {
-        return false;
-    }
-    if g.d != 0 {
-        return false;
-    }
-    if head.node != 0 {
-        return false;
-    }
-    if g.l != 0 {
-        return false;
-    }
-    head.batch == 0
+    let none = Head {
+        group: group::of(0, 0, 0, 0),
+        node: 0,
+        batch: 0,
+        kind: 0,
+    };
+    head == none
 }
 
 // These can be the numbers of a head of which so many bytes are in.
@@ -83,12 +70,10 @@ pub fn partly_in(head: Head, at: usize) -> bool
         return false;
     }
     let size = kinds::head_size(head.kind);
-    let mut offset = 0;
-    while offset < size {
+    for offset in 0..size {
         if !byte_fits(head, at, offset) {
             return false;
         }
-        offset += 1;
     }
     true
 }
@@ -115,10 +100,8 @@ pub fn head_after(head: Head, at: usize, bytes: &[u8]) -> Head
 {
     let size = kinds::head_size(head.kind);
     let mut first = [0u8; MOST_BYTES];
-    let mut next = 0;
-    while next < size {
+    for next in 0..size {
         first[next] = byte_after(head, at, bytes, next);
-        next += 1;
     }
     head_bytes::head_in(&first)
 }

@@ -6,7 +6,9 @@ ghost use Rattle.preview_product.specs.Preview.{preview_letters};
 ghost use Rattle.preview_packets.specs.Steps.Starts.{SequenceStarts};
 
 use group::Group;
-use sequences::{moved, rows, windows};
+use sequences::moved::Moved;
+use sequences::rows::{self, Previews};
+use sequences::windows;
 
 // Fills `packet`. Where the widest shift leaves at least a block to all sequences, each letter there is written once; else every sequence is a run that is added,
 // since what the two ends cost would be more than is saved.
@@ -32,13 +34,11 @@ fn add_sequences(g: Group, node: usize, file: &[u8], packet: &mut [u8])
     windows::clear(packet);
     let mut shift = 0;
     let mut end = 0;
-    let mut u = 0;
-    while u < g.k {
+    for u in 0..g.k {
         let start = end;
         end = start + g.l;
         adding::add_run(packet, shift, &file[start..end]);
         shift += node;
-        u += 1;
     }
 }
 
@@ -49,9 +49,15 @@ fn lay_sequences(g: Group, node: usize, file: &[u8], packet: &mut [u8])
     ensures { packet.new ≡ preview_letters xors g file.now node }
 {
     let starts = sequence_starts(g);
-    let shifts = rows::preview_row(node);
+    let shifts = rows::row(&Previews, node);
     let widest = packet.len() - g.l;
-    moved::lay_sum(packet, file, g.l, &starts, &shifts, g.k, 0, widest, g.l);
+    let runs = Moved {
+        from: file,
+        size: g.l,
+        starts: &starts[0..g.k],
+        leads: &shifts,
+    };
+    runs.lay_sum(packet, 0, widest, g.l);
 }
 
 // Where each of the k sequences of a file starts.
@@ -61,11 +67,9 @@ fn sequence_starts(g: Group) -> [usize; 16]
 {
     let mut starts = [0usize; 16];
     let mut start = 0;
-    let mut u = 0;
-    while u < g.k {
+    for u in 0..g.k {
         starts[u] = start;
         start += g.l;
-        u += 1;
     }
     starts
 }

@@ -5,7 +5,7 @@ ghost use Rattle.preview_recovering.specs.Calls.{preview_readers_refusal, Previe
 ghost use Rattle.preview_recovering.specs.Steps.Checked.{CheckedReaders};
 
 use group::{Group, Refusal};
-use sequences::rows;
+use sequences::rows::{self, Previews};
 
 // Turns the k pieces in `buffer`, L letters each, one after another by rank, into the file, in place: the one file that has those pieces, for any letters whatever.
 // The answer is how many letters that aren't zero it takes to add: the terms of document 01's solving sum whose letter isn't zero in the file that comes out.
@@ -35,6 +35,6 @@ fn recover_exact(g: Group, ids: &[usize], buffer: &mut [u8]) -> Result<usize, Re
     if buffer.len() != wanted {
         return Err(Refusal::Input);
     }
-    let rows = rows::preview_rows(ids);
+    let rows = rows::of(&Previews, ids);
     Ok(solving::solve_counted(buffer, g.k, g.l, &rows))
 }

@@ -20,8 +20,7 @@ fn percent(part: usize, whole: usize) -> usize {
 }
 
 // Puts a node and its group of previews.
-fn put_preview_node(node: usize, g: Group, line: &mut [u8]) -> usize
-    requires { length line.old ≡ 256 }
+fn put_preview_node(node: usize, g: Group, line: &mut [u8; 256]) -> usize
     ensures { result ≤ 92 }
 {
     let of = text::put_number(line, 0, b"previews of node ", node);
@@ -30,8 +29,7 @@ fn put_preview_node(node: usize, g: Group, line: &mut [u8]) -> usize
 }
 
 // Puts a node and its group: `node 1 of [3,2,2]`; of previews, which have no d, `previews of node 1 of [3,2]`.
-fn put_node(node: usize, g: Group, line: &mut [u8]) -> usize
-    requires { length line.old ≡ 256 }
+fn put_node(node: usize, g: Group, line: &mut [u8; 256]) -> usize
     ensures { result ≤ 92 }
 {
     if g.d == 0 {
@@ -44,8 +42,7 @@ fn put_node(node: usize, g: Group, line: &mut [u8]) -> usize
 }
 
 // Puts whose share it is: `node 1 of [3,2,2], L = 1, batch 7`.
-fn put_head(head: Head, line: &mut [u8]) -> usize
-    requires { length line.old ≡ 256 }
+fn put_head(head: Head, line: &mut [u8; 256]) -> usize
     ensures { result ≤ 147 }
 {
     let node = put_node(head.node, head.group, line);
@@ -54,8 +51,8 @@ fn put_head(head: Head, line: &mut [u8]) -> usize
 }
 
 // Puts how far it is: `: 81 of 81 bytes, 100%`.
-fn put_far(part: usize, whole: usize, at: usize, line: &mut [u8]) -> usize
-    requires { (length line.old ≡ 256) × (at ≤ 147) }
+fn put_far(part: usize, whole: usize, at: usize, line: &mut [u8; 256]) -> usize
+    requires { at ≤ 147 }
     ensures { result ≤ 222 }
 {
     let has = text::put_number(line, at, b": ", part);
@@ -73,8 +70,8 @@ pub fn line(head: Head, part: usize, whole: usize, line: &mut [u8; 256]) -> usiz
 }
 
 // Puts what would stand where a byte can't.
-fn put_part(refusal: Refusal, at: usize, line: &mut [u8]) -> usize
-    requires { (length line.old ≡ 256) × (at ≤ 64) }
+fn put_part(refusal: Refusal, at: usize, line: &mut [u8; 256]) -> usize
+    requires { at ≤ 64 }
     ensures { result ≤ 128 }
 {
     match refusal {

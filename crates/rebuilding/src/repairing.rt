@@ -6,7 +6,8 @@ ghost use Rattle.rebuilding.specs.Calls.{apart_refusal, helpers_refusal, Repaire
 ghost use Rattle.rebuilding.specs.Steps.Checked.{Helpers};
 
 use group::{Group, Refusal};
-use sequences::rows;
+use lengths::known::Member;
+use sequences::rows::{self, Tabled};
 
 // Turns the d pieces in `buffer`, L' letters each, one after another in the helpers' order, into the lost node's d packets, in place.
 // For letters that no honest helpers send, that is the one solution of the d equations. The answer is how many letters that aren't zero it takes to add:
@@ -52,11 +53,13 @@ fn repair_exact(g: Group, lost: usize, helpers: &[usize], buffer: &mut [u8]) -> 
     requires { Helpers g lost helpers.now }
     ensures { Repaired g lost helpers.now buffer.old buffer.new result }
 {
-    let wanted = lengths::known::repair_buffer(g, lost);
+    let lost_one = Member { g, node: lost };
+    let wanted = lost_one.repair_buffer();
     if buffer.len() != wanted {
         return Err(Refusal::Input);
     }
-    let n = lengths::known::repair(g, lost);
-    let rows = rows::shift_rows(helpers);
+    let n = lost_one.repair_letters();
+    let table = shifts::all();
+    let rows = rows::of(&Tabled { table: &table }, helpers);
     Ok(solving::solve_counted(buffer, g.d, n, &rows))
 }

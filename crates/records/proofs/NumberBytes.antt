@@ -2,7 +2,7 @@
 use mathlib.Core.Path.{◌≡◌, refl, ap, ap₂, ◌∙◌}
 use mathlib.Core.List.{List}
 use mathlib.Core.Logic.{◌↔◌}
-use Prim.Native.Nat.{ℕ, zero, suc, ◌+◌, ◌-◌, ◌*◌, ◌/◌, ◌%◌, ◌^◌, ◌≤◌, ◌<◌}
+use Prim.Native.Nat.{ℕ, zero, suc, ◌+◌, ◌-◌, ◌*◌, ◌/◌, ◌^◌, ◌≤◌, ◌<◌}
 use native.Mathlib.Nat.{add-zero, mul_assoc, pow-succ'}
 use native.Mathlib.Omega.{arith}
 use lib.ListN.{length, get_or}
@@ -85,19 +85,6 @@ number_own (suc s) at xs b (suc q) h =
     let low : get_or xs at 0 < 256 = omega (arith, first_index xs at, b.below 0 (omega arith)) in
     let rest : (get_or xs at 0 + 256 * number_in s (suc at) xs) / 256 ≡ number_in s (suc at) xs = omega arith in
     rw rest (omega (arith, next_index xs at q, number_own s (suc at) xs (bytes_on xs at s b) q (omega arith)))
-
--- a number's lowest byte, and those after it, which are those of the rest
-pub lowest_byte : (s x q : ℕ) → 1 ≤ s → q ≡ 0 → get_or (number s x) q 0 ≡ x % 256
-lowest_byte zero x q h e = absurd (omega arith)
-lowest_byte (suc s) x q h e = rw e
-
-pub later_bytes : (s x q : ℕ) → 1 ≤ s → 1 ≤ q → get_or (number s x) q 0 ≡ get_or (number (s - 1) (x / 256)) (q - 1) 0
-later_bytes zero x q h l = absurd (omega arith)
-later_bytes (suc s) x zero h l = absurd (omega arith)
-later_bytes (suc s) x (suc q) h l =
-    let a : suc s - 1 ≡ s = omega arith in
-    let b : suc q - 1 ≡ q = omega arith in
-    rw (a, b)
 
 -- one byte more at the front
 pub number_more : (s at : ℕ) (xs : List ℕ) → 1 ≤ s → number_in s at xs ≡ get_or xs at 0 + 256 * number_in (s - 1) (at + 1) xs

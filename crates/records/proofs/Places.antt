@@ -7,11 +7,10 @@ use Prim.Native.Nat.{ℕ, zero, suc, ◌+◌, ◌-◌, ◌*◌, ◌/◌, ◌%◌
 use native.Mathlib.Numerals.{add-one}
 use native.Mathlib.Omega.{arith}
 use lib.Dec.{ltb, eqb}
-use lib.ListN.{get_or}
 use borrow.Author.Tests.{lt-ltb, le-ltb, eq-eqb, ne_eqb}
 use Rattle.letters.specs.Places.{either}
 use Rattle.letters.proofs.Cases.{le_or_lt}
-use Rattle.records.specs.Records.{block_letters, block_size, blocks, end_record}
+use Rattle.records.specs.Records.{block_letters, block_size, blocks}
 use Rattle.records.specs.Steps.Places.{block_kind, block_stands, end_stands, record_stands, stands_in, record_start, record_size, record_at, offset_at}
 
 -- a number that isn't 0 is one more than another
@@ -41,17 +40,6 @@ module _ (T r j byte B : ℕ) (e : B ≡ blocks T) where
   pub record_none : B ≤ r → (r ≡ B → ⊥) → record_stands T r j byte ≡ false
   unfolding record_stands
   record_none h n = simp (le-ltb r (blocks T) (omega arith), ne_eqb r (blocks T) (λ q. n (q ∙ sym e)))
-
--- an offset of the end that has no byte
-pub past_end :
-    (T offset : ℕ) → (offset ≡ 0 → ⊥) → (offset ≡ 1 → ⊥) → (offset ≡ 2 → ⊥) → (offset ≡ 3 → ⊥) → (offset ≡ 4 → ⊥)
-    → get_or (end_record T) offset 0 ≡ 0
-past_end T zero n0 n1 n2 n3 n4 = absurd (n0 refl)
-past_end T (suc zero) n0 n1 n2 n3 n4 = absurd (n1 refl)
-past_end T (suc (suc zero)) n0 n1 n2 n3 n4 = absurd (n2 refl)
-past_end T (suc (suc (suc zero))) n0 n1 n2 n3 n4 = absurd (n3 refl)
-past_end T (suc (suc (suc (suc zero)))) n0 n1 n2 n3 n4 = absurd (n4 refl)
-past_end T (suc (suc (suc (suc (suc j))))) n0 n1 n2 n3 n4 = refl
 
 -- a record that isn't the head
 pub size_past_head : (H nth : ℕ) → (nth ≡ 0 → ⊥) → record_size H nth ≡ block_size

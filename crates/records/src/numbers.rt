@@ -13,10 +13,7 @@ pub fn low(x: usize) -> u8
 pub fn byte_at(share: &[u8], i: usize) -> usize
     ensures { (result ≡ get_or share.now i 0) × (result < 256) }
 {
-    if share.len() <= i {
-        return 0;
-    }
-    share[i] as usize
+    usize::from(share.get(i).copied().unwrap_or(0))
 }
 
 // The number of so many bytes from an index on, the least one first; a byte that isn't there counts as 0.
@@ -25,9 +22,7 @@ pub fn number_in(share: &[u8], start: usize, size: usize) -> usize
     ensures { (result ≡ number_in size start share.now) × (result < 256 ^ size) }
 {
     let mut x = 0;
-    let mut i = size;
-    while 0 < i {
-        i -= 1;
+    for i in (0..size).rev() {
         x = byte_at(share, start + i) + 256 * x;
     }
     x
@@ -38,12 +33,7 @@ pub fn byte_of(x: usize, nth: usize) -> u8
     requires { nth < 4 }
     ensures { (size : ℕ) → nth < size → result ≡ get_or (number size x) nth 0 }
 {
-    match nth {
-        0 => low(x),
-        1 => low(x / 256),
-        2 => low(x / 256 / 256),
-        _ => low(x / 256 / 256 / 256),
-    }
+    x.to_le_bytes()[nth]
 }
 
 // A number has room in so many bytes.
@@ -51,10 +41,8 @@ pub fn has_room(x: usize, size: usize) -> bool
     ensures { (result ≡ true) ↔ (x < 256 ^ size) }
 {
     let mut rest = x;
-    let mut i = 0;
-    while i < size {
-        rest = rest / 256;
-        i += 1;
+    for _ in 0..size {
+        rest /= 256;
     }
     rest == 0
 }

@@ -14,10 +14,7 @@ fn least_left(least: usize, byte: usize) -> usize
 fn most_left(most: usize, byte: usize) -> usize
     ensures { result ≡ most_left most byte }
 {
-    if most < byte {
-        return 0;
-    }
-    (most - byte) / 256
+    most.saturating_sub(byte) / 256
 }
 
 // Some number of the range has this lowest byte.
@@ -43,13 +40,11 @@ pub fn byte_stands(least: usize, most: usize, x: usize, nth: usize) -> bool
     let mut lo = least;
     let mut hi = most;
     let mut rest = x;
-    let mut i = 0;
-    while i < nth {
+    for _ in 0..nth {
         let byte = rest % 256;
         lo = least_left(lo, byte);
         hi = most_left(hi, byte);
-        rest = rest / 256;
-        i += 1;
+        rest /= 256;
     }
     low_stands(lo, hi, rest % 256)
 }

@@ -5,12 +5,13 @@ ghost use Rattle.records.specs.Records.{block_size, total_limit, blocks, size_fo
 
 use crate::numbers;
 
-// The kinds of record.
-pub const KIND_FULL: u8 = 2;
-
-pub const KIND_LAST: u8 = 3;
-
-pub const KIND_END: u8 = 4;
+// The kinds of record that follow a head, each by the byte that it begins with.
+#[derive(Clone, Copy, PartialEq, Eq, Debug)]
+pub enum RecordKind {
+    FullBlock = 2,
+    LastBlock = 3,
+    End = 4,
+}
 
 // The letters of a block.
 pub const BLOCK_LETTERS: usize = 64;
@@ -72,9 +73,9 @@ pub fn block_kind(letters: usize, r: usize) -> u8
     ensures { result ≡ block_kind letters r }
 {
     if (r + 1) * BLOCK_LETTERS <= letters {
-        return KIND_FULL;
+        return RecordKind::FullBlock as u8;
     }
-    KIND_LAST
+    RecordKind::LastBlock as u8
 }
 
 // The byte at an offset of the end: its kind, then the four bytes of T; past them there is none, and it counts as 0.
@@ -82,11 +83,8 @@ pub fn end_byte(letters: usize, offset: usize) -> u8
     ensures { result ≡ get_or (end_record letters) offset 0 }
 {
     match offset {
-        0 => KIND_END,
-        1 => numbers::low(letters),
-        2 => numbers::low(letters / 256),
-        3 => numbers::low(letters / 256 / 256),
-        4 => numbers::low(letters / 256 / 256 / 256),
+        0 => RecordKind::End as u8,
+        1..=4 => numbers::byte_of(letters, offset - 1),
         _ => 0,
     }
 }

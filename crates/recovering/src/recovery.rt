@@ -5,7 +5,7 @@ ghost use Rattle.recovering.specs.Calls.{readers_refusal, Recovered};
 ghost use Rattle.recovering.specs.Steps.Checked.{Readers};
 
 use group::{Group, Refusal};
-use sequences::rows;
+use sequences::rows::{self, Tabled};
 
 // Turns the pieces in `buffer`, laid out as the file, into the file, in place: the one file that has those pieces, for any letters whatever.
 // The answer is how many letters that aren't zero it takes to add: the terms of document 01's sums whose letter isn't zero in the file that comes out.
@@ -35,7 +35,8 @@ fn recover_exact(g: Group, ids: &[usize], buffer: &mut [u8]) -> Result<usize, Re
     if buffer.len() != wanted {
         return Err(Refusal::Input);
     }
-    let rows = rows::shift_rows(ids);
+    let table = shifts::all();
+    let rows = rows::of(&Tabled { table: &table }, ids);
     solved_columns::recover_columns(g, ids, &rows, buffer);
     Ok(file_count::of_file(g, ids, &rows, buffer))
 }

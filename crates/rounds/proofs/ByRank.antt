@@ -11,15 +11,8 @@ use Rattle.letters.proofs.Cases.{le_or_lt}
 use Rattle.tiles.proofs.Even.{delay_even}
 use Rattle.system.specs.Order.{delay}
 use Rattle.one_turn.specs.Tables.{nth, even_shift}
-use Rattle.one_turn.proofs.Tables.{exponents_even}
+use Rattle.one_turn.proofs.Tables.{nth_next, exponents_even}
 use Rattle.rounds.specs.Steps.Rounds.{Begun, Ended}
-
--- the rank after index i
-pub nth_next : (xs : List ℕ) (i : ℕ) → nth xs (i + 1) ≡ get_or xs i 0
-nth_next xs i = ap (λ j. get_or xs j 0) back
-  where
-    back : i + 1 - 1 ≡ i
-    back = omega arith
 
 -- what holds by index holds by rank
 pub by_rank : (xs : List ℕ) (s : ℕ) (f : ℕ → ℕ) → ((i : ℕ) → i < s → get_or xs i 0 ≡ f (i + 1)) → (b : ℕ) → 1 ≤ b → b ≤ s → nth xs b ≡ f b

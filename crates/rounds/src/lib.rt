@@ -14,14 +14,12 @@ pub fn begun(s: usize, delays: &[usize], hi: usize, done: usize) -> usize
     requires { (s ≤ 16) × (length delays.now ≡ 16) × (Begun s delays.now 0 done hi) }
     ensures { (Begun s delays.now s done result) × (hi ≤ result) }
 {
-    let mut b = hi;
-    while b < s {
+    for b in hi..s {
         if done < delays[b] {
             return b;
         }
-        b += 1;
     }
-    b
+    s
 }
 
 // How many of the `hi` ranks that have begun have ended after `done` rounds, `below` at least.
@@ -30,14 +28,12 @@ pub fn ended(n: usize, hi: usize, delays: &[usize], below: usize, done: usize) -
     requires small { (i : ℕ) → i < hi → get_or delays.now i 0 ≤ 2 ^ 32 }
     ensures { Ended n hi delays.now hi done result }
 {
-    let mut b = below;
-    while b < hi {
+    for b in below..hi {
         if done < n + delays[b] {
             return b;
         }
-        b += 1;
     }
-    b
+    hi
 }
 
 // The round after which a tile ends that starts after `done` rounds: where a rank ends or the next one begins, or where it gets too long.
@@ -46,9 +42,9 @@ pub fn cut(s: usize, n: usize, delays: &[usize], below: usize, hi: usize, done: 
     requires small { (i : ℕ) → i < s → get_or delays.now i 0 ≤ 2 ^ 32 }
     ensures { Cut s n delays.now below hi done result }
 {
-    let end = letters::lesser(done + LONGEST, n + delays[below]);
+    let end = (done + LONGEST).min(n + delays[below]);
     if hi < s {
-        return letters::lesser(end, delays[hi]);
+        return end.min(delays[hi]);
     }
     end
 }

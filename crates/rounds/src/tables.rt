@@ -11,10 +11,8 @@ pub fn exponents(s: usize, rows: &[usize]) -> [usize; 16]
     ensures { Exponents s rows.now result }
 {
     let mut exps = [0usize; 16];
-    let mut b = 0;
-    while b < s {
+    for b in 0..s {
         exps[b] = place::shift_in(rows, b + 1, 2);
-        b += 1;
     }
     exps
 }
@@ -25,10 +23,8 @@ pub fn delays(s: usize, exps: &[usize]) -> [usize; 16]
     ensures { Waits s exps.now result }
 {
     let mut delays = [0usize; 16];
-    let mut b = 1;
-    while b < s {
+    for b in 1..s {
         delays[b] = delays[b - 1] + exps[b];
-        b += 1;
     }
     delays
 }
@@ -40,10 +36,8 @@ pub fn starts(n: usize, delays: &[usize], below: usize, hi: usize, done: usize) 
     ensures { RunStarts n delays.now below hi done result }
 {
     let mut starts = [0usize; 16];
-    let mut b = below;
-    while b < hi {
+    for b in below..hi {
         starts[b] = b * n + (done - delays[b]);
-        b += 1;
     }
     starts
 }

@@ -6,6 +6,7 @@ ghost use Rattle.sending.specs.Calls.{Handed, Starting, Placed, place_refusal, e
 ghost use Rattle.matrix.specs.Matrix.{Free};
 
 use group::{Group, Refusal};
+use lengths::known::Member;
 use matrix::entries;
 
 // What `node` sends as `rank` of `column`: that part of its packets, letters t(i,v)+1 .. t(i,v)+L of packet u, uncopied.
@@ -23,29 +24,28 @@ pub fn piece_start(g: Group, node: usize, rank: usize, column: usize, held: usiz
     ensures { Starting g node rank column held result }
 {
     group_checks::node(g, node)?;
-    start_of_node(g, node, rank, column, held)
+    start_of_node(Member { g, node }, rank, column, held)
 }
 
 // The same for a node of the group.
-fn start_of_node(g: Group, node: usize, rank: usize, column: usize, held: usize) -> Result<usize, Refusal>
-    requires { NodeOf g node }
-    ensures { Starting g node rank column held result }
+fn start_of_node(of: Member, rank: usize, column: usize, held: usize) -> Result<usize, Refusal>
+    ensures { Starting of.g of.node rank column held result }
 {
-    check_place(g, rank, column)?;
-    start_of_place(g, node, rank, column, held)
+    check_place(of.g, rank, column)?;
+    start_of_place(of, rank, column, held)
 }
 
 // The same for a rank and a column that fit.
-fn start_of_place(g: Group, node: usize, rank: usize, column: usize, held: usize) -> Result<usize, Refusal>
-    requires { (NodeOf g node) × (Free g rank column) }
-    ensures { Starting g node rank column held result }
+fn start_of_place(of: Member, rank: usize, column: usize, held: usize) -> Result<usize, Refusal>
+    requires { Free of.g rank column }
+    ensures { Starting of.g of.node rank column held result }
 {
-    let wanted = lengths::known::node(g, node);
+    let wanted = of.letters();
     if held != wanted {
         return Err(Refusal::Input);
     }
-    let start = lengths::known::packet_start(g, node, column);
-    Ok(start + shifts::shift(node, rank))
+    let start = of.packet_start(column);
+    Ok(start + shifts::shift(of.node, rank))
 }
 
 // A rank is one of 1..k and its column one of rank..d: else refusal 3.

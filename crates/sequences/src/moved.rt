@@ -56,6 +56,6 @@ impl Moved<'_> {
         ensures { let m = self.now in Holding m.from.now m.starts.now m.leads.now (length m.starts.now) m.size skip into.old into.new }
     {
         let seen = self.seen_starts(skip);
-        laid_sums::lay(into, self.from, &seen, self.starts.len());
+        laid_sums::lay(into, self.from, &seen[..self.starts.len()]);
     }
 }

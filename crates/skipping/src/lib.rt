@@ -33,14 +33,12 @@ fn past_zeros(share: &[u8], at: usize, end: usize) -> usize
     requires { (at ≤ end) × (end ≤ length share.now) }
     ensures { ZerosTo share.now at end result }
 {
-    let mut i = at;
-    while i < end {
+    for i in at..end {
         if share[i] != 0 {
             return i;
         }
-        i += 1;
     }
-    i
+    end
 }
 
 // The byte after the one at `at`, which stands at this offset of its record, that has to be looked at, or `end`. Any letter can stand, so
@@ -76,12 +74,10 @@ pub fn past_full_blocks(share: &[u8], start: usize, letters: usize, r: usize) ->
     }
     let begun = (share.len() - start + (sizes::BLOCK_SIZE - 1)) / sizes::BLOCK_SIZE;
     let most = letters::lesser(begun, full - r);
-    let mut count = 0;
-    while count < most {
-        if share[start + count * sizes::BLOCK_SIZE] != sizes::KIND_FULL {
+    for count in 0..most {
+        if share[start + count * sizes::BLOCK_SIZE] != sizes::RecordKind::FullBlock as u8 {
             return start + count * sizes::BLOCK_SIZE;
         }
-        count += 1;
     }
     letters::lesser(start + most * sizes::BLOCK_SIZE, share.len())
 }

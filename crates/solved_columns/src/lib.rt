@@ -3,46 +3,49 @@
 
 ghost use Rattle.std.specs.Prelude.{◌≡◌, ◌≤◌, length};
 ghost use Rattle.letters.specs.Algebra.{xors};
-ghost use Rattle.shifts.specs.Rule.{t};
 ghost use Rattle.lengths.specs.Lengths.{file_letters};
-ghost use Rattle.sequences.specs.Steps.Rows.{RowsOf};
 ghost use Rattle.matrix.specs.Pieces.{reading};
 ghost use Rattle.columns.specs.Steps.Columns.{Collected};
 ghost use Rattle.solved_columns.specs.Steps.Recovery.{Column, Stage};
 
 use group::Group;
 use matrix::entries;
-use sequences::rows;
+use matrix::senders::Senders;
+use sequences::rows::{self, Tabled};
 
 // Turns the pieces in `buffer` into the one file that has them, in place.
 pub fn recover(g: Group, ids: &[usize], buffer: &mut [u8])
     requires { Collected g ids.now buffer.old }
     ensures { (length buffer.new ≡ file_letters g) × (reading xors g buffer.new ids.now ≡ buffer.old) }
 {
-    let rows = rows::shift_rows(ids);
-    recover_columns(g, ids, &rows, buffer);
+    let table = shifts::all();
+    let senders = Senders {
+        g,
+        ids,
+        rows: &rows::of(&Tabled { table: &table }, ids),
+    };
+    recover_columns(&senders, buffer);
 }
 
 // The columns from the last one down: the later ones, solved by then, are taken out of each, and it is solved where it lies.
-pub fn recover_columns(g: Group, ids: &[usize], rows: &[usize], buffer: &mut [u8])
-    requires { (Collected g ids.now buffer.old) × (RowsOf t ids.now rows.now) }
-    ensures { Stage g ids.now 0 buffer.old buffer.new }
+pub fn recover_columns(senders: &Senders, buffer: &mut [u8])
+    requires { length buffer.old ≡ file_letters senders.now.g }
+    ensures { Stage senders.now.g senders.now.ids.now 0 buffer.old buffer.new }
 {
-    let mut u = g.d;
-    while 0 < u {
-        recover_column(g, ids, rows, u, buffer);
-        u -= 1;
+    for u in (1..=senders.g.d).rev() {
+        recover_column(senders, u, buffer);
     }
 }
 
 // Column `u`: its min(u,k) sequences are one part of the buffer.
-fn recover_column(g: Group, ids: &[usize], rows: &[usize], u: usize, buffer: &mut [u8])
-    requires { (Collected g ids.now buffer.old) × (RowsOf t ids.now rows.now) × (1 ≤ u) × (u ≤ g.d) }
-    ensures { Column g ids.now u buffer.old buffer.new }
+fn recover_column(senders: &Senders, u: usize, buffer: &mut [u8])
+    requires { (length buffer.old ≡ file_letters senders.now.g) × (1 ≤ u) × (u ≤ senders.now.g.d) }
+    ensures { Column senders.now.g senders.now.ids.now u buffer.old buffer.new }
 {
-    let s = letters::lesser(u, g.k);
+    let g = senders.g;
+    let s = u.min(g.k);
     let start = entries::sequences_before(g.k, u) * g.l;
     let end = start + s * g.l;
-    columns::pull_column(g, ids, rows, u, buffer);
-    solving::solve(&mut buffer[start..end], s, g.l, rows);
+    columns::pull_column(senders, u, buffer);
+    solving::solve(&mut buffer[start..end], s, g.l, senders.rows);
 }

@@ -1,6 +1,7 @@
 -- One tile of a buffer of sequences: its runs lie in their sequences, what solves them by themselves solves the tile, and no other letter changes.
 use native.Mathlib.Omega.{arith}
 use native.Mathlib.Nat.{mul-le-mul_right, add-mul, one-mul}
+use lib.ListN.{get_or}
 use mathlib.Core.Path.{◌≡◌, sym, ap, ap₂, ◌∙◌}
 use mathlib.Core.List.{List}
 use mathlib.Core.Logic.{⊎_elim}
@@ -12,6 +13,7 @@ use Rattle.system.specs.Order.{delay}
 use Rattle.system.proofs.Order.{ordered_same, delay_same}
 use Rattle.system.proofs.System.{index_of, sequence_inside, sequences}
 use Rattle.equation.specs.Rows.{shift_in, Rows, Solvable}
+use Rattle.equation.specs.Delays.{Delays}
 use Rattle.equation.proofs.Delays.{delay_small}
 use Rattle.earlier.specs.Taken.{TakesOut}
 use Rattle.tiles.specs.Even.{lag}
@@ -22,6 +24,7 @@ use Rattle.tiles.proofs.Runs.{run_letter_lem}
 use Rattle.tiles.proofs.Buffers.{outside}
 use Rattle.tiles.proofs.Tile.{through_tile, within_then, tile_by_ends}
 use Rattle.one_turn.specs.Tables.{nth, even_shift, RunsApart, runs_in, OnlyRuns}
+use Rattle.one_turn.proofs.Tables.{nth_next}
 use Rattle.rounds.specs.Steps.Rounds.{Exponents, Waits, RunStarts, Begun, Ended, Cut}
 use Rattle.solving.specs.Steps.Tiles.{TablesOf, Onward}
 
@@ -109,8 +112,8 @@ module _ (s n : ℕ) (rows exps delays starts : List ℕ) (tables : TablesOf s r
       }
 
 -- delays are small
-pub waits_small : (s : ℕ) (rows exps delays : List ℕ) → Rows s rows → TablesOf s rows exps delays → (b : ℕ) → 1 ≤ b → b ≤ s → nth delays b ≤ 65535 * 16
-waits_small s rows exps delays r tables b lo hi = omega (arith, tables.waits.each b lo hi, delay_small s rows r b hi, r.few-nodes)
+pub waits_small : (s : ℕ) (rows delays : List ℕ) → Rows s rows → Delays s rows delays → (i : ℕ) → i < s → get_or delays i 0 ≤ 65535 * 16
+waits_small s rows delays r waits i h = omega (arith, nth_next delays i, waits.each (i + 1) (omega arith) (omega arith), delay_small s rows r (i + 1) (omega arith), r.few-nodes)
 
 -- the tile that is cut is one
 pub tile_here :

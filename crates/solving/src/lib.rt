@@ -4,9 +4,12 @@
 
 ghost use Rattle.std.specs.Prelude.{◌≡◌, ◌+◌, ◌*◌, ◌^◌, ◌≤◌, ◌<◌, length};
 ghost use Rattle.equation.specs.Rows.{shift_in, Solvable};
-ghost use Rattle.tiles.specs.Tile.{Tile};
 ghost use Rattle.solving.specs.Solver.{Solved, SolvedCounted};
 ghost use Rattle.solving.specs.Steps.Tiles.{TablesOf, Onward};
+
+use earlier::Tile;
+use equation::System;
+use one_turn::Ranks;
 
 // Solves the system of `s` equations over `s` sequences of `n` letters each. `part` holds the s pieces one after another and is left with
 // the s sequences in their place; `rows` has the shift of the node of rank b at column a at index (b - 1) * 16 + (a - 1).
@@ -17,7 +20,13 @@ pub fn solve(part: &mut [u8], s: usize, n: usize, rows: &[usize])
 {
     let exps = rounds::tables::exponents(s, rows);
     let delays = rounds::tables::delays(s, &exps);
-    solve_tiles(part, s, n, rows, &exps, &delays);
+    let system = System {
+        s,
+        n,
+        rows,
+        delays: &delays,
+    };
+    solve_tiles(part, &system, &exps);
 }
 
 // The same. The answer is how many of the system's terms have a letter that isn't zero, in the sequences that came out (docs/SCHEME.md, 8).
@@ -31,50 +40,45 @@ pub fn solve_counted(part: &mut [u8], s: usize, n: usize, rows: &[usize]) -> usi
 }
 
 // The tiles, one after another, until all rounds are done.
-fn solve_tiles(
-    part: &mut [u8],
-    s: usize,
-    n: usize,
-    rows: &[usize],
-    exps: &[usize],
-    delays: &[usize],
-)
-    requires system { (Solvable s n rows.now) × (TablesOf s rows.now exps.now delays.now) }
-    requires letters { length part.old ≡ s * n }
-    ensures { Solved s n rows.now part.old part.new }
+fn solve_tiles(part: &mut [u8], system: &System, exps: &[usize])
+    requires tables { TablesOf system.now.s system.now.rows.now exps.now system.now.delays.now }
+    requires letters { length part.old ≡ system.now.s * system.now.n }
+    ensures { Solved system.now.s system.now.n system.now.rows.now part.old part.new }
 {
-    let rounds = n + delays[s - 1];
+    let rounds = system.n + system.delays[system.s - 1];
     let mut hi = 0;
     let mut below = 0;
     let mut done = 0;
     while done < rounds {
-        hi = rounds::begun(s, delays, hi, done);
-        below = rounds::ended(n, hi, delays, below, done);
-        let end = rounds::cut(s, n, delays, below, hi, done);
-        solve_tile(part, s, n, rows, exps, delays, below, hi, done, end - done);
+        hi = rounds::begun(system.s, system.delays, hi, done);
+        below = rounds::ended(system.n, hi, system.delays, below, done);
+        let end = rounds::cut(system.s, system.n, system.delays, below, hi, done);
+        let tile = Tile {
+            system: *system,
+            below,
+            hi,
+            done,
+            count: end - done,
+        };
+        solve_tile(part, &tile, exps);
         done = end;
     }
 }
 
-// One tile: the rounds done + 1 .. done + count, in which the ranks after `below` and up to `hi` have a letter.
-fn solve_tile(
-    part: &mut [u8],
-    s: usize,
-    n: usize,
-    rows: &[usize],
-    exps: &[usize],
-    delays: &[usize],
-    below: usize,
-    hi: usize,
-    done: usize,
-    count: usize,
-)
-    requires system { (Solvable s n rows.now) × (TablesOf s rows.now exps.now delays.now) }
-    requires letters { length part.old ≡ s * n }
-    requires tile { (Tile s n (shift_in rows.now) done count below hi) × (done + count ≤ 2 ^ 34) }
-    ensures { Onward s n rows.now part.old part.new done (done + count) }
+// One tile: what is read from before it is taken out of its runs, and what is left of them is solved by itself.
+fn solve_tile(part: &mut [u8], tile: &Tile, exps: &[usize])
+    requires tables { let t = tile.now.system in TablesOf t.s t.rows.now exps.now t.delays.now }
+    requires letters { length part.old ≡ tile.now.system.s * tile.now.system.n }
+    requires small { tile.now.done + tile.now.count ≤ 2 ^ 34 }
+    ensures { let t = tile.now in Onward t.system.s t.system.n t.system.rows.now part.old part.new t.done (t.done + t.count) }
 {
-    let starts = rounds::tables::starts(n, delays, below, hi, done);
-    earlier::take_out(part, s, n, rows, delays, below, hi, done, count);
-    turns::solve(part, exps, delays, &starts, below, hi, count);
+    let delays = tile.system.delays;
+    let starts = rounds::tables::starts(tile.system.n, delays, tile.below, tile.hi, tile.done);
+    earlier::take_out(part, tile);
+    let ranks = Ranks {
+        hi: tile.hi,
+        exps,
+        delays,
+    };
+    turns::solve(part, &ranks, &starts, tile.below, tile.count);
 }

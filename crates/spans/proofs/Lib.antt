@@ -1,3 +1,2 @@
 -- Why a run reads these letters.
 pub mod Reading
-pub mod Signed

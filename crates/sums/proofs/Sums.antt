@@ -6,7 +6,7 @@ use native.Mathlib.Nat.{zero-add, sub-zero}
 use native.Mathlib.Omega.{arith}
 use lib.Bits.{bit_xor}
 use lib.ListN.{length, get_or, take, drop}
-use lib.Seq.{get_or-take, get_or-drop}
+use lib.Seq.{get_or-take, get_or-drop, length-take-le}
 use Rattle.letters.specs.Algebra.{xors, sum}
 use Rattle.letters.specs.Runs.{added}
 use Rattle.letters.specs.Laid.{Laid}
@@ -147,3 +147,25 @@ laid_within starts n first to block xs ys zs count later w few h front rest =
     begun =
         block_laid xs starts n 0 block xs ys to (to + first) (λ p. sum_at xs starts n (p - to)) w (omega arith) front
         (λ p lo hi. ap (sum_at xs starts n) (zero-add (p - to)))
+
+-- The runs that start at the first n numbers of a list, where a caller lends these alone.
+module _ (starts : List ℕ) (n : ℕ) where
+  start_taken : (u : ℕ) → 1 ≤ u → u ≤ n → run_start (take n starts) u ≡ run_start starts u
+  start_taken u lo hi = get_or-take n starts (u - 1) 0 (omega arith)
+
+  pub inside_taken : (count long : ℕ) → RunsInside starts n count long → RunsInside (take n starts) (length (take n starts)) count long
+  inside_taken count long w =
+      let all = length-take-le n starts w.many in
+      record { some = omega (arith, w.some); many = omega arith; fits = λ u lo hi. omega (arith, start_taken u lo (omega arith), w.fits u lo (omega arith)) }
+
+  pub none_before_taken : (to : ℕ) → n ≤ length starts → NoneBefore starts n to → NoneBefore (take n starts) (length (take n starts)) to
+  none_before_taken to many w =
+      let all = length-take-le n starts many in
+      record { from = λ u lo hi. omega (arith, start_taken u lo (omega arith), w.from u lo (omega arith)) }
+
+  pub sum_at_taken : (from : List ℕ) (q : ℕ) → n ≤ length starts → sum_at from (take n starts) (length (take n starts)) q ≡ sum_at from starts n q
+  unfolding sum_at
+  sum_at_taken from q many =
+      rw (length-take-le n starts many)
+      (sum_same xors n (λ u. get_or from (run_start (take n starts) u + q) 0) (λ u. get_or from (run_start starts u + q) 0)
+      (λ u lo hi. ap (λ s. get_or from (s + q) 0) (start_taken u lo hi)))

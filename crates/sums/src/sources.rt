@@ -6,29 +6,25 @@ ghost use Rattle.sums.specs.Sums.{sum_at, RunsInside, BlockOf};
 use adding::eights;
 
 // The block of the sum that starts `at` letters behind the runs' starts: the first run's letters are taken, and those of the others added.
-pub fn block(from: &[u8], starts: &[usize], sources: usize, at: usize) -> [u8; eights::WIDEST]
-    requires { RunsInside starts.now sources (at + widest_block) (length from.now) }
-    ensures { BlockOf from.now starts.now sources at result }
+pub fn block(from: &[u8], starts: &[usize], at: usize) -> [u8; eights::WIDEST]
+    requires { RunsInside starts.now (length starts.now) (at + widest_block) (length from.now) }
+    ensures { BlockOf from.now starts.now (length starts.now) at result }
 {
     let mut block = eights::taken(from, starts[0] + at, eights::WIDEST);
-    let mut u = 1;
-    while u < sources {
-        eights::add_letters(&mut block, 0, from, starts[u] + at, eights::WIDEST);
-        u += 1;
+    for start in &starts[1..] {
+        eights::add_letters(&mut block, 0, from, *start + at, eights::WIDEST);
     }
     block
 }
 
 // The letter of the sum that stands `at` letters behind the runs' starts.
-pub fn letter(from: &[u8], starts: &[usize], sources: usize, at: usize) -> u8
-    requires { RunsInside starts.now sources (at + 1) (length from.now) }
-    ensures { result ≡ sum_at from.now starts.now sources at }
+pub fn letter(from: &[u8], starts: &[usize], at: usize) -> u8
+    requires { RunsInside starts.now (length starts.now) (at + 1) (length from.now) }
+    ensures { result ≡ sum_at from.now starts.now (length starts.now) at }
 {
     let mut sum = 0;
-    let mut u = 0;
-    while u < sources {
-        sum ^= from[starts[u] + at];
-        u += 1;
+    for start in starts {
+        sum ^= from[*start + at];
     }
     sum
 }

@@ -1,22 +1,11 @@
 -- Text that is put after text: what stands before it and after it stays.
-use mathlib.Core.Path.{◌≡◌, refl, ap, sym, ◌∙◌}
+use mathlib.Core.Path.{◌≡◌, ap, sym, ◌∙◌}
 use mathlib.Core.List.{List, ◌++◌, append_assoc}
-use Prim.Native.Nat.{ℕ, ◌+◌, ◌≤◌}
+use Prim.Native.Nat.{ℕ, ◌+◌}
 use native.Mathlib.Omega.{arith}
 use lib.ListN.{length, take, drop, length-append}
-use lib.Seq.{paste, take-length, length-take-le, take_at, drop_at, drop-drop}
+use lib.Seq.{length-take-le, take_at, drop_at, drop-drop}
 use Rattle.text.specs.Text.{Put}
-
--- a whole text that is pasted is put
-pub pasted :
-    (before : List ℕ) (at : ℕ) (text : List ℕ) → at + length text ≤ length before
-    → Put before at text (at + length text) (paste before at text (length text))
-pasted before at text h =
-    record {
-      room = omega arith;
-      count = refl;
-      holds = simp (take-length, append_assoc);
-    }
 
 -- one text after another is both
 module _ {a b c x y : List ℕ} {at r s : ℕ} where

@@ -7,24 +7,28 @@ ghost use Rattle.text.specs.Text.{Put};
 ghost use Rattle.judging.specs.Judging.{outcome_of};
 ghost use Rattle.verdict.specs.Line.{Told, judgment_line};
 
-use heads::bytes as head_bytes;
-use share::Judgment;
+use heads::{Head, bytes as head_bytes};
+use share::Fault;
 use verdict_words::{put_complete, put_malformed};
 
 // Puts the line of a judgment at the start of `line`, whose other bytes stay as they were. The answer is how many bytes it has, the end of
 // the line included. A share of any length has one, and its bytes needn't be there.
-pub fn judgment_line(judgment: Judgment, line: &mut [u8; 192]) -> usize
+#[tactic(auto, using(crate::proofs::Telling::counted))]
+pub fn judgment_line(judgment: Result<Head, Fault>, line: &mut [u8; 192]) -> usize
     ensures text { Put line.old 0 (judgment_line (outcome_of judgment)) result line.new }
     ensures within { IsPrefixLen result line.new }
 {
     match judgment {
-        Judgment::Complete(head) => put_complete(head, head_bytes::total(head), line),
-        Judgment::Refused(_) => text::put(line, 0, b"unfinished\n"),
-        Judgment::Malformed(refusal, at) => put_malformed(group::refusal_number(refusal), at, line),
+        Ok(head) => put_complete(head, head_bytes::total(head), line),
+        Err(Fault::Refused(_)) => text::put(line, 0, b"unfinished\n"),
+        Err(Fault::Malformed(refusal, at)) => {
+            put_malformed(group::refusal_number(refusal), at, line)
+        }
     }
 }
 
 // Puts the line for these bytes, in the same way.
+#[tactic(auto, using(crate::proofs::Telling::counted, crate::proofs::Telling::told_long, crate::proofs::Telling::told_judged))]
 pub fn line(bytes: &[u8], line: &mut [u8; 192]) -> usize
     ensures told { Told bytes.now line.old result line.new }
     ensures within { IsPrefixLen result line.new }

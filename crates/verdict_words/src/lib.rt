@@ -9,8 +9,7 @@ use group::Group;
 use heads::Head;
 
 // Puts `complete` and the group's three numbers.
-fn put_group(g: Group, line: &mut [u8]) -> usize
-    requires { length line.old ≡ 192 }
+fn put_group(g: Group, line: &mut [u8; 192]) -> usize
     ensures text { Put line.old 0 (complete_group g) result line.new }
     ensures short { result ≤ 71 }
 {
@@ -20,8 +19,7 @@ fn put_group(g: Group, line: &mut [u8]) -> usize
 }
 
 // Puts the line of a share: its group, and the rest by name.
-pub fn put_complete(head: Head, letters: usize, line: &mut [u8]) -> usize
-    requires { length line.old ≡ 192 }
+pub fn put_complete(head: Head, letters: usize, line: &mut [u8; 192]) -> usize
     ensures { Put line.old 0 (complete_line head letters) result line.new }
 {
     let group = put_group(head.group, line);
@@ -33,8 +31,7 @@ pub fn put_complete(head: Head, letters: usize, line: &mut [u8]) -> usize
 }
 
 // Puts the line of bytes with something wrong: its number, and the index of the first byte that can't stand there.
-pub fn put_malformed(number: usize, at: usize, line: &mut [u8]) -> usize
-    requires { length line.old ≡ 192 }
+pub fn put_malformed(number: usize, at: usize, line: &mut [u8; 192]) -> usize
     ensures { Put line.old 0 (malformed_line number at) result line.new }
 {
     let what = text::put_number(line, 0, b"malformed ", number);

@@ -1,94 +1,67 @@
 // Judges the share on standard input while it comes in, whatever its length, and keeps none of it. Writes the judge's line as soon as it
 // is known, and on standard error how far the share is. Where standard input can't be read, there is a line on standard error, and no
-// judgment.
+// judgment. What can't be written is seen by who runs this, in tools/programs.sh.
 #![tactic(auto)]
 
 mod showing;
 
 use arriving::Arriving;
-use judging::Judgment;
-use std::io::{IsTerminal, Read};
+use heads::Head;
+use judging::Fault;
+use showing::Screen;
+use std::io;
+use std::io::{Error, IsTerminal, Read, Write};
 
-// The descriptors of standard output and standard error.
-const STDOUT: i32 = 1;
-
-const STDERR: i32 = 2;
-
-// What is known after a burst: whether another one is wanted, and otherwise whether there is a judgment.
-#[derive(Clone, Copy)]
-struct Turn {
-    state: Arriving,
-    goes_on: bool,
-    judged: bool,
+// Reads from `stdin` once, at most 4,096 bytes. The answer is the state after them; there is none at the end of the input.
+fn burst(stdin: &mut impl Read, state: Arriving) -> io::Result<Option<Arriving>> {
+    let mut bytes = [0u8; 4096];
+    let count = stdin.read(&mut bytes)?;
+    if count == 0 {
+        return Ok(None);
+    }
+    Ok(Some(state.after(&bytes[..count])))
 }
 
-// Takes these bytes. A byte that can't stand settles the judgment, so that nothing behind it is read.
-fn take(state: Arriving, bytes: &[u8], moving: bool) -> Turn {
-    let next = state.after(bytes);
-    let stands = next.wrong == 0;
-    if moving {
-        showing::show(state, next);
+// Reads until the judgment is known. The end of the input settles what could still become a share, or already is one; a byte that can't stand
+// settles it before, so that nothing behind it is read. A proved loop has to end, and nothing says that an input does: no run comes to the last
+// turn of this one.
+fn watch<W: Write>(
+    stdin: &mut impl Read,
+    state: &mut Arriving,
+    screen: &mut Screen<W>,
+) -> io::Result<()> {
+    for _ in 0..u64::MAX {
+        let Some(next) = burst(stdin, *state)? else {
+            return Ok(());
+        };
+        screen.show(*state, next);
+        *state = next;
+        if next.wrong != 0 {
+            return Ok(());
+        }
     }
-    Turn {
-        state: next,
-        goes_on: stands,
-        judged: !stands,
-    }
-}
-
-// Reads from `stdin` once, at most 4,096 bytes. Only the end of the input settles what could still become a share, or already is one.
-fn burst(stdin: &mut impl Read, state: Arriving, moving: bool) -> Turn {
-    let mut bytes = io::buffer();
-    let got = stdin.read(&mut bytes);
-    if let Ok(count) = got
-        && count > 0
-    {
-        return take(state, &bytes[..count], moving);
-    }
-    Turn {
-        state: state,
-        goes_on: false,
-        judged: got.is_ok(),
-    }
-}
-
-// A proved loop has to end, and nothing says that an input does. So the loop counts its bursts down, from a number that no run uses up.
-fn watch(stdin: &mut impl Read, moving: bool) -> Turn {
-    let mut turn = Turn {
-        state: Arriving::start(),
-        goes_on: true,
-        judged: false,
-    };
-    let mut bursts = u64::MAX;
-    while bursts > 0 && turn.goes_on {
-        turn = burst(stdin, turn.state, moving);
-        bursts -= 1;
-    }
-    turn
+    Err(Error::other("it doesn't end"))
 }
 
 // Writes the line of this judgment.
-fn tell(judgment: Judgment) {
+fn tell(rt: &impl Print, judgment: Result<Head, Fault>) {
     let mut line = [0u8; 192];
     let count = verdict::judgment_line(judgment, &mut line);
-    io::write_all(STDOUT, &line[..count]);
-}
-
-// Says that there is no judgment, since the input can't be read to its end.
-fn give_up(state: Arriving, moving: bool) {
-    if moving {
-        showing::leave(state);
-    }
-    io::write_all(STDERR, b"watch: standard input can't be read\n");
+    let _ = rt.write_all(&line[..count]);
 }
 
 fn main(rt: HostRuntime) {
-    let moving = rt.stderr().is_terminal();
-    let turn = watch(&mut rt.stdin(), moving);
-    if turn.judged {
-        showing::end(turn.state, moving);
-        tell(turn.state.judge());
-    } else {
-        give_up(turn.state, moving);
+    let stderr = rt.stderr();
+    let mut screen = Screen {
+        to: stderr,
+        moves: stderr.is_terminal(),
+    };
+    let mut state = Arriving::start();
+    match watch(&mut rt.stdin(), &mut state, &mut screen) {
+        Ok(()) => {
+            screen.end(state);
+            tell(&rt, state.judge());
+        }
+        Err(_) => screen.give_up(state),
     }
 }

@@ -29,31 +29,29 @@ pub loop-j-init : goal.loop-j-init
 unfolding joined
 loop-j-init c =
     let s = c in
-    (omega arith, refl, sym (packet_first s.args.g s.args.node), refl, λ q h. c.clear.ensures.zeros.zero q)
+    (refl, sym (packet_first s.args.encoding.now.g s.args.encoding.now.node), refl, λ q h. c.clear.ensures.zeros.zero q)
 
 pub overflow_add-end : goal.overflow_add-end
 overflow_add-end c =
     let s = c in
     let l = c in
-    omega (arith, node_at_most s.args.g s.args.node s.requires.node.0, packet_fits s.args.g s.args.node s.requires.node.0 (l.loop-j.j + 1) (omega arith) (omega arith), l.loop-j.invariant.2, s.requires.node.1, packet_same s.args.g s.args.node 1 (l.loop-j.j + 1))
+    omega (arith, node_at_most s.args.encoding.now.g s.args.encoding.now.node s.args.encoding.now.known, packet_fits s.args.encoding.now.g s.args.encoding.now.node s.args.encoding.now.known (l.loop-j.j + 1) (omega arith) (omega arith), l.loop-j.invariant.1, s.args.encoding.now.sized, packet_same s.args.encoding.now.g s.args.encoding.now.node 1 (l.loop-j.j + 1))
 
 pub slice_bounds-add_packet-end : goal.slice_bounds-add_packet-end
 slice_bounds-add_packet-end c =
     let s = c in
     let l = c in
-    omega (arith, s.requires.lengths.1, l.loop-j.invariant.1, c.clear.ensures.same_length, packet_fits s.args.g s.args.node s.requires.node.0 (l.loop-j.j + 1) (omega arith) (omega arith), l.loop-j.invariant.2, s.requires.node.1, packet_same s.args.g s.args.node 1 (l.loop-j.j + 1))
+    omega (arith, s.requires, l.loop-j.invariant.0, c.clear.ensures.same_length, packet_fits s.args.encoding.now.g s.args.encoding.now.node s.args.encoding.now.known (l.loop-j.j + 1) (omega arith) (omega arith), l.loop-j.invariant.1, s.args.encoding.now.sized, packet_same s.args.encoding.now.g s.args.encoding.now.node 1 (l.loop-j.j + 1))
 
 pub add_packet-requires : goal.add_packet-requires
 add_packet-requires c =
     let s = c in
     let l = c in record {
-      table = s.requires.table;
-      node = (s.requires.node.0, omega arith, omega arith);
-      lengths = (
-        s.requires.lengths.0,
-        lent s.args.g s.args.node s.requires.node.0 l.loop-j.packets l.loop-j.j _ _ (omega arith) (l.loop-j.invariant.1 ∙ c.clear.ensures.same_length ∙ s.requires.lengths.1)
-            l.loop-j.invariant.2 (s.requires.node.1 ∙ packet_same s.args.g s.args.node 1 (l.loop-j.j + 1)),
-        lent_zeros l.loop-j.packets l.loop-j.end (l.loop-j.end + s.args.size - l.loop-j.end) l.loop-j.invariant.4,
+      column = (omega arith, omega arith);
+      letters = (
+        lent s.args.encoding.now.g s.args.encoding.now.node s.args.encoding.now.known l.loop-j.packets l.loop-j.j _ _ (omega arith) (l.loop-j.invariant.0 ∙ c.clear.ensures.same_length ∙ s.requires)
+            l.loop-j.invariant.1 (s.args.encoding.now.sized ∙ packet_same s.args.encoding.now.g s.args.encoding.now.node 1 (l.loop-j.j + 1)),
+        lent_zeros l.loop-j.packets l.loop-j.end (l.loop-j.end + s.args.encoding.now.size - l.loop-j.end) l.loop-j.invariant.3,
       );
     }
 
@@ -61,20 +59,19 @@ pub loop-j-preserved : goal.loop-j-preserved
 loop-j-preserved c =
     let s = c in
     let l = c in
-    let long = l.loop-j.invariant.1 ∙ c.clear.ensures.same_length ∙ s.requires.lengths.1 in
-    let sized = s.requires.node.1 ∙ packet_same s.args.g s.args.node 1 (l.loop-j.j + 1) in (
-      omega arith,
-      kept s.args.g s.args.node s.requires.node.0 s.args.file.now l.loop-j.packets _ l.loop-j.j _ _ (omega arith) long l.loop-j.invariant.2 sized l.loop-j.invariant.3 c.add_packet.ensures ∙ l.loop-j.invariant.1,
-      ends s.args.g s.args.node l.loop-j.j _ _ l.loop-j.invariant.2 sized,
-      next s.args.g s.args.node s.requires.node.0 s.args.file.now l.loop-j.packets _ l.loop-j.j _ _ (omega arith) long l.loop-j.invariant.2 sized l.loop-j.invariant.3 c.add_packet.ensures,
-      λ q h. rest_kept s.args.g s.args.node s.requires.node.0 s.args.file.now l.loop-j.packets _ l.loop-j.j _ _ (omega arith) long l.loop-j.invariant.2 sized l.loop-j.invariant.3 c.add_packet.ensures q h ∙ l.loop-j.invariant.4 q (omega arith),
+    let long = l.loop-j.invariant.0 ∙ c.clear.ensures.same_length ∙ s.requires in
+    let sized = s.args.encoding.now.sized ∙ packet_same s.args.encoding.now.g s.args.encoding.now.node 1 (l.loop-j.j + 1) in (
+      kept s.args.encoding.now.g s.args.encoding.now.node s.args.encoding.now.known s.args.encoding.now.file.now l.loop-j.packets _ l.loop-j.j _ _ (omega arith) long l.loop-j.invariant.1 sized l.loop-j.invariant.2 c.add_packet.ensures ∙ l.loop-j.invariant.0,
+      ends s.args.encoding.now.g s.args.encoding.now.node l.loop-j.j _ _ l.loop-j.invariant.1 sized,
+      next s.args.encoding.now.g s.args.encoding.now.node s.args.encoding.now.known s.args.encoding.now.file.now l.loop-j.packets _ l.loop-j.j _ _ (omega arith) long l.loop-j.invariant.1 sized l.loop-j.invariant.2 c.add_packet.ensures,
+      λ q h. rest_kept s.args.encoding.now.g s.args.encoding.now.node s.args.encoding.now.known s.args.encoding.now.file.now l.loop-j.packets _ l.loop-j.j _ _ (omega arith) long l.loop-j.invariant.1 sized l.loop-j.invariant.2 c.add_packet.ensures q h ∙ l.loop-j.invariant.3 q (omega arith),
     )
 
 pub shape_of-packets : goal.shape_of-packets
-shape_of-packets c = c.loop-j.invariant.1 ∙ c.clear.ensures.same_length
+shape_of-packets c = c.loop-j.invariant.0 ∙ c.clear.ensures.same_length
 
 pub returns : goal.returns
 returns c =
     let s = c in
     let l = c in
-    all_packets s.args.g s.args.node s.args.file.now l.loop-j.packets l.loop-j.j l.loop-j.end (omega arith) l.loop-j.invariant.2 (l.loop-j.invariant.1 ∙ c.clear.ensures.same_length ∙ s.requires.lengths.1) l.loop-j.invariant.3
+    all_packets s.args.encoding.now.g s.args.encoding.now.node s.args.encoding.now.file.now l.loop-j.packets l.loop-j.j l.loop-j.end (omega arith) l.loop-j.invariant.1 (l.loop-j.invariant.0 ∙ c.clear.ensures.same_length ∙ s.requires) l.loop-j.invariant.2

@@ -7,21 +7,21 @@ use Rattle.c_odd.proofs.Numbers.{put_none, put_more, put_all}
 use Rattle.c_odd.proofs.put.Goals as goal
 
 pub loop-i-init : goal.loop-i-init
-loop-i-init c = (omega arith, put_none _ _ c.requires)
+loop-i-init c = put_none _ _ c.requires
 
 pub bounds-report-i : goal.bounds-report-i
-bounds-report-i c = omega (arith, c.loop-i.invariant.1.long)
+bounds-report-i c = omega (arith, c.loop-i.invariant.long)
 
 pub bounds-report-i-in-loop-i : goal.bounds-report-i-in-loop-i
-bounds-report-i-in-loop-i c = simp length-set (omega (arith, c.loop-i.invariant.1.long))
+bounds-report-i-in-loop-i c = simp length-set (omega (arith, c.loop-i.invariant.long))
 
 pub loop-i-preserved : goal.loop-i-preserved
 loop-i-preserved c =
     let l = c.loop-i in
-    (omega arith, put_more _ l.report l.i _ _ (omega arith) c.state.ensures c.place.ensures l.invariant.1)
+    put_more _ l.report l.i _ _ (omega arith) c.state.ensures c.place.ensures l.invariant
 
 pub shape_of-report : goal.shape_of-report
-shape_of-report c = c.loop-i.invariant.1.long ∙ sym c.requires
+shape_of-report c = c.loop-i.invariant.long ∙ sym c.requires
 
 pub returns : goal.returns
-returns c = put_all _ c.loop-i.report c.loop-i.i (omega arith) c.loop-i.invariant.1
+returns c = put_all _ c.loop-i.report c.loop-i.i (omega arith) c.loop-i.invariant

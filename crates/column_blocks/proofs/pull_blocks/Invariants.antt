@@ -3,8 +3,5 @@ use Prim.Native.Nat.{◌-◌, ◌≤◌}
 use Rattle.column_blocks.proofs.Blocks.{ColumnsSeen}
 use Rattle.column_blocks.proofs.pull_blocks.Given as goal
 
-abbrev pub invariant-loop-u : goal.invariant-loop-u
-invariant-loop-u l = (l.v ≤ l.u) × (l.u ≤ l.g.d) × ColumnsSeen l.g l.ids l.v l.w l.wide (l.u - l.v) l.starts
-
-abbrev pub decreases-loop-u : goal.decreases-loop-u
-decreases-loop-u l = l.g.d - l.u
+abbrev pub invariant-loop-before : goal.invariant-loop-before
+invariant-loop-before l = ColumnsSeen l.senders.g l.senders.ids.now l.v l.w l.wide (l.before - l.v) l.starts

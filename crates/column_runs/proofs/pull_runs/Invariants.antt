@@ -1,10 +1,7 @@
 -- `pull_runs` meets its contract: after each turn one later column more is taken out.
-use Prim.Native.Nat.{◌-◌, ◌≤◌}
+use Prim.Native.Nat.{◌-◌}
 use Rattle.column_runs.specs.Steps.Runs.{from_next, Grown}
 use Rattle.column_runs.proofs.pull_runs.Given as goal
 
 abbrev pub invariant-loop-u : goal.invariant-loop-u
-invariant-loop-u l = (l.v ≤ l.u) × (l.u ≤ l.g.d) × Grown l.g l.v l.w 0 l.end (from_next l.g l.ids l.initial.buffer l.v l.w (l.u - l.v)) l.initial.buffer l.buffer
-
-abbrev pub decreases-loop-u : goal.decreases-loop-u
-decreases-loop-u l = l.g.d - l.u
+invariant-loop-u l = Grown l.senders.g l.v l.w 0 l.end (from_next l.senders.g l.senders.ids.now l.initial.buffer l.v l.w (l.u - l.v)) l.initial.buffer l.buffer

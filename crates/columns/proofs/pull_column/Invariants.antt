@@ -4,7 +4,4 @@ use Rattle.columns.specs.Steps.Columns.{Pulled}
 use Rattle.columns.proofs.pull_column.Given as goal
 
 abbrev pub invariant-loop-w : goal.invariant-loop-w
-invariant-loop-w l = (l.w ≤ l.v) × Pulled l.g l.ids l.v l.w l.initial.buffer l.buffer
-
-abbrev pub decreases-loop-w : goal.decreases-loop-w
-decreases-loop-w l = l.v - l.w
+invariant-loop-w l = Pulled l.senders.g l.senders.ids.now l.v l.w l.initial.buffer l.buffer

@@ -2,6 +2,9 @@
 use Rattle.lengths.specs.Lengths.{packet_length}
 use Rattle.comparing.proofs.right_letters.Goals as goal
 
-pub right_packets-requires : goal.right_packets-requires
+pub invariant_of-encoding : goal.invariant_of-encoding
 unfolding packet_length
-right_packets-requires c = record { shifts = c.shift_row-shifts.ensures; node = (c.requires.node, c.widened_in-size.ensures.0); lengths = c.requires.lengths }
+invariant_of-encoding c = record { shifts = c.all-table.ensures; known = c.requires.node; sized = c.widened_in.ensures.0; whole = c.requires.lengths.0 }
+
+pub invariant_of-widened_in : goal.invariant_of-widened_in
+invariant_of-widened_in c = record { of = c.requires.node }

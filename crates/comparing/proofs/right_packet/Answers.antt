@@ -1,7 +1,10 @@
 -- `right_packet` meets its contract: the column's entries are runs of the file, and what is seen of them is the packet.
 use native.Mathlib.Omega.{arith}
+use mathlib.Core.Path.{◌∙◌}
 use Rattle.lengths.specs.Lengths.{packet_length}
 use Rattle.lengths.proofs.Sizes.{node_at_most, packet_fits}
+use Rattle.sequences.proofs.FirstRuns.{first_runs, first_seen}
+use Rattle.matrix.proofs.Product.{packet_same}
 use Rattle.laid_packets.proofs.Columns.{entry_runs, entries_seen}
 use Rattle.comparing.proofs.Packets.{packet_compared}
 use Rattle.comparing.proofs.right_packet.Goals as goal
@@ -10,16 +13,33 @@ pub overflow_sub-widest : goal.overflow_sub-widest
 unfolding packet_length
 overflow_sub-widest c = omega arith
 
+pub invariant_of-runs : goal.invariant_of-runs
+invariant_of-runs c =
+    let runs = entry_runs c.args.encoding.now.g c.args.encoding.now.node c.args.column c.args.encoding.now.known (omega arith) (omega arith) c.args.encoding.now.file.now _ _ _ c.args.encoding.now.whole c.column_starts-starts.ensures c.requires.shifts c.rows_used-rows.ensures in
+    record { runs = first_runs _ _ _ _ runs.inside.many _ runs }
+
+pub invariant_of-runs-2 : goal.invariant_of-runs-2
+invariant_of-runs-2 c =
+    let runs = entry_runs c.args.encoding.now.g c.args.encoding.now.node c.args.column c.args.encoding.now.known (omega arith) (omega arith) c.args.encoding.now.file.now _ _ _ c.args.encoding.now.whole c.column_starts-starts.ensures c.requires.shifts c.rows_used-rows.ensures in
+    record { runs = first_runs _ _ _ _ runs.inside.many _ runs }
+
+pub overflow_add-widest : goal.overflow_add-widest
+overflow_add-widest c =
+    let e = c.args.encoding.now in
+    omega (arith, node_at_most e.g e.node e.known, packet_fits e.g e.node e.known 1 (omega arith) (omega arith))
+
 pub seen-requires : goal.seen-requires
-seen-requires c = record { runs = entry_runs c.args.g c.args.node c.args.column c.requires.node.0 (omega arith) (omega arith) c.args.file.now _ _ _ c.requires.lengths.0 c.column_starts-starts.ensures c.requires.shifts c.rows_used-rows.ensures; small = omega (arith, c.requires.lengths.1, node_at_most c.args.g c.args.node c.requires.node.0, packet_fits c.args.g c.args.node c.requires.node.0 c.args.column (omega arith) (omega arith)) }
+seen-requires c = omega (arith, c.requires.held, node_at_most c.args.encoding.now.g c.args.encoding.now.node c.args.encoding.now.known, packet_fits c.args.encoding.now.g c.args.encoding.now.node c.args.encoding.now.known c.args.column (omega arith) (omega arith))
 
 pub returns-then-g-widest : goal.returns-then-g-widest
-returns-then-g-widest c = packet_compared c.args.g c.args.node c.args.column c.requires.node.0 (omega arith) (omega arith) c.args.file.now _ _ _ c.requires.lengths.0 c.column_starts-starts.ensures c.requires.shifts c.rows_used-rows.ensures _ _ c.requires.lengths.1 c.seen.ensures
+returns-then-g-widest c = packet_compared c.args.encoding.now.g c.args.encoding.now.node c.args.column c.args.encoding.now.known (omega arith) (omega arith) c.args.encoding.now.file.now _ _ _ c.args.encoding.now.whole c.column_starts-starts.ensures c.requires.shifts c.rows_used-rows.ensures _ _ c.requires.held c.seen.ensures
 
 pub same-requires : goal.same-requires
 unfolding packet_length
 same-requires c =
-    record { runs = entry_runs c.args.g c.args.node c.args.column c.requires.node.0 (omega arith) (omega arith) c.args.file.now _ _ _ c.requires.lengths.0 c.column_starts-starts.ensures c.requires.shifts c.rows_used-rows.ensures; middle = (entries_seen c.args.g c.args.node c.args.column c.requires.node.0 (omega arith) (omega arith) c.args.file.now _ _ _ c.requires.lengths.0 c.column_starts-starts.ensures c.requires.shifts c.rows_used-rows.ensures c.args.size (omega arith) (omega arith), omega arith, omega (arith, c.requires.lengths.1, node_at_most c.args.g c.args.node c.requires.node.0, packet_fits c.args.g c.args.node c.requires.node.0 c.args.column (omega arith) (omega arith))) }
+    let runs = entry_runs c.args.encoding.now.g c.args.encoding.now.node c.args.column c.args.encoding.now.known (omega arith) (omega arith) c.args.encoding.now.file.now _ _ _ c.args.encoding.now.whole c.column_starts-starts.ensures c.requires.shifts c.rows_used-rows.ensures in
+    let sized = c.args.encoding.now.sized ∙ packet_same c.args.encoding.now.g c.args.encoding.now.node 1 c.args.column in
+    (first_seen _ _ _ c.args.encoding.now.g.l runs.inside.many _ _ _ (entries_seen c.args.encoding.now.g c.args.encoding.now.node c.args.column c.args.encoding.now.known (omega arith) (omega arith) c.args.encoding.now.file.now _ _ _ c.args.encoding.now.whole c.column_starts-starts.ensures c.requires.shifts c.rows_used-rows.ensures c.args.encoding.now.size sized (omega (arith, sized))), omega arith, omega (arith, c.requires.held, node_at_most c.args.encoding.now.g c.args.encoding.now.node c.args.encoding.now.known, packet_fits c.args.encoding.now.g c.args.encoding.now.node c.args.encoding.now.known c.args.column (omega arith) (omega arith)))
 
 pub returns : goal.returns
-returns c = packet_compared c.args.g c.args.node c.args.column c.requires.node.0 (omega arith) (omega arith) c.args.file.now _ _ _ c.requires.lengths.0 c.column_starts-starts.ensures c.requires.shifts c.rows_used-rows.ensures _ _ c.requires.lengths.1 c.same.ensures
+returns c = packet_compared c.args.encoding.now.g c.args.encoding.now.node c.args.column c.args.encoding.now.known (omega arith) (omega arith) c.args.encoding.now.file.now _ _ _ c.args.encoding.now.whole c.column_starts-starts.ensures c.requires.shifts c.rows_used-rows.ensures _ _ c.requires.held c.same.ensures

@@ -10,44 +10,43 @@ use Rattle.comparing.proofs.Packets.{ends_in_packet, packet_more, after_all}
 use Rattle.comparing.proofs.right_packets.Goals as goal
 
 pub loop-j-init : goal.loop-j-init
-loop-j-init c = (omega arith, sym (packet_first c.args.g c.args.node), same_none _ _)
+loop-j-init c = (sym (packet_first c.args.encoding.now.g c.args.encoding.now.node), same_none _ _)
 
 pub overflow_add-end : goal.overflow_add-end
 overflow_add-end c =
     let l = c.loop-j in
-    omega (arith, node_at_most c.args.g c.args.node c.requires.node.0, packet_fits c.args.g c.args.node c.requires.node.0 (l.j + 1) (omega arith) (omega arith), l.invariant.1, c.requires.node.1, packet_same c.args.g c.args.node 1 (l.j + 1))
+    omega (arith, node_at_most c.args.encoding.now.g c.args.encoding.now.node c.args.encoding.now.known, packet_fits c.args.encoding.now.g c.args.encoding.now.node c.args.encoding.now.known (l.j + 1) (omega arith) (omega arith), l.invariant.0, c.args.encoding.now.sized, packet_same c.args.encoding.now.g c.args.encoding.now.node 1 (l.j + 1))
 
 pub slice_bounds-right_packet-end : goal.slice_bounds-right_packet-end
 slice_bounds-right_packet-end c =
     let l = c.loop-j in
-    omega (arith, c.requires.lengths.1, packet_fits c.args.g c.args.node c.requires.node.0 (l.j + 1) (omega arith) (omega arith), l.invariant.1, c.requires.node.1, packet_same c.args.g c.args.node 1 (l.j + 1))
+    omega (arith, c.requires.held, packet_fits c.args.encoding.now.g c.args.encoding.now.node c.args.encoding.now.known (l.j + 1) (omega arith) (omega arith), l.invariant.0, c.args.encoding.now.sized, packet_same c.args.encoding.now.g c.args.encoding.now.node 1 (l.j + 1))
 
 pub right_packet-right-requires : goal.right_packet-right-requires
 right_packet-right-requires c =
     let l = c.loop-j in
-    let sized = c.requires.node.1 ∙ packet_same c.args.g c.args.node 1 (l.j + 1) in record { shifts = c.requires.shifts; node = (c.requires.node.0, omega arith, omega arith, sized); lengths = (c.requires.lengths.0, lent c.args.g c.args.node c.requires.node.0 c.args.held.now l.j _ _ (omega arith) c.requires.lengths.1 l.invariant.1 sized) }
+    let sized = c.args.encoding.now.sized ∙ packet_same c.args.encoding.now.g c.args.encoding.now.node 1 (l.j + 1) in record { shifts = c.requires.shifts; column = (omega arith, omega arith); held = lent c.args.encoding.now.g c.args.encoding.now.node c.args.encoding.now.known c.args.held.now l.j _ _ (omega arith) c.requires.held l.invariant.0 sized }
 
 pub overflow_add-result : goal.overflow_add-result
 overflow_add-result c =
     let l = c.loop-j in
-    omega (arith, c.requires.lengths.1, packet_fits c.args.g c.args.node c.requires.node.0 (l.j + 1) (omega arith) (omega arith), l.invariant.1, c.requires.node.1, packet_same c.args.g c.args.node 1 (l.j + 1), node_at_most c.args.g c.args.node c.requires.node.0, c.if-right-size.true)
+    omega (arith, c.requires.held, packet_fits c.args.encoding.now.g c.args.encoding.now.node c.args.encoding.now.known (l.j + 1) (omega arith) (omega arith), l.invariant.0, c.args.encoding.now.sized, packet_same c.args.encoding.now.g c.args.encoding.now.node 1 (l.j + 1), node_at_most c.args.encoding.now.g c.args.encoding.now.node c.args.encoding.now.known, c.if-right-size.true)
 
 pub returns-then-right-size : goal.returns-then-right-size
 returns-then-right-size c =
     let l = c.loop-j in
-    let sized = c.requires.node.1 ∙ packet_same c.args.g c.args.node 1 (l.j + 1) in
-    ends_in_packet c.args.g c.args.node c.requires.node.0 _ _ l.j _ _ _ (omega arith) c.requires.lengths.1 l.invariant.1 sized l.invariant.2 c.right_packet-right.ensures c.if-right-size.true
+    let sized = c.args.encoding.now.sized ∙ packet_same c.args.encoding.now.g c.args.encoding.now.node 1 (l.j + 1) in
+    ends_in_packet c.args.encoding.now.g c.args.encoding.now.node c.args.encoding.now.known _ _ l.j _ _ _ (omega arith) c.requires.held l.invariant.0 sized l.invariant.1 c.right_packet-right.ensures c.if-right-size.true
 
 pub loop-j-preserved : goal.loop-j-preserved
 loop-j-preserved c =
     let l = c.loop-j in
-    let sized = c.requires.node.1 ∙ packet_same c.args.g c.args.node 1 (l.j + 1) in (
-      omega arith,
-      ends c.args.g c.args.node l.j _ _ l.invariant.1 sized,
-      packet_more c.args.g c.args.node c.requires.node.0 _ _ l.j _ _ _ (omega arith) c.requires.lengths.1 l.invariant.1 sized l.invariant.2 c.right_packet-right.ensures c.if-right-size.false,
+    let sized = c.args.encoding.now.sized ∙ packet_same c.args.encoding.now.g c.args.encoding.now.node 1 (l.j + 1) in (
+      ends c.args.encoding.now.g c.args.encoding.now.node l.j _ _ l.invariant.0 sized,
+      packet_more c.args.encoding.now.g c.args.encoding.now.node c.args.encoding.now.known _ _ l.j _ _ _ (omega arith) c.requires.held l.invariant.0 sized l.invariant.1 c.right_packet-right.ensures c.if-right-size.false,
     )
 
 pub returns : goal.returns
 returns c =
     let l = c.loop-j in
-    same_all _ _ l.end l.invariant.2 (after_all c.args.g c.args.node c.args.held.now l.j l.end (omega arith) l.invariant.1 c.requires.lengths.1)
+    same_all _ _ l.end l.invariant.1 (after_all c.args.encoding.now.g c.args.encoding.now.node c.args.held.now l.j l.end (omega arith) l.invariant.0 c.requires.held)

@@ -9,7 +9,4 @@ use Rattle.matching.specs.Same.{SameTo}
 use Rattle.comparing.proofs.right_packets.Given as goal
 
 abbrev pub invariant-loop-j : goal.invariant-loop-j
-invariant-loop-j l = (l.j ≤ l.g.d) × (l.end ≡ packet_start l.g l.node (l.j + 1)) × SameTo l.held (λ q. get_or (product xors l.g l.file l.node) q 0) l.end
-
-abbrev pub decreases-loop-j : goal.decreases-loop-j
-decreases-loop-j l = l.g.d - l.j
+invariant-loop-j l = (l.end ≡ packet_start l.encoding.g l.encoding.node (l.j + 1)) × SameTo l.held (λ q. get_or (product xors l.encoding.g l.encoding.file.now l.encoding.node) q 0) l.end

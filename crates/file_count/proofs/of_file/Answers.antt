@@ -1,6 +1,6 @@
 -- `of_file` meets its contract: after every turn one column more is in the sum. The first has no terms.
 use mathlib.Core.Path.{◌≡◌, sym, ap, ap₂, ◌∙◌}
-use Prim.Native.Nat.{ℕ, ◌+◌, ◌-◌}
+use Prim.Native.Nat.{ℕ, ◌+◌}
 use native.Mathlib.Omega.{arith}
 use Rattle.letters.specs.Algebra.{Adding, counts, sum}
 use Rattle.letters.proofs.Sums.{none_plus, sum_more}
@@ -15,10 +15,7 @@ sum_one 𝓐 f = none_plus 𝓐 (f 1)
 pub loop-u-init : goal.loop-u-init
 loop-u-init c =
     let s = c in
-    (omega arith, omega arith, sym (sum_one counts (λ x. column_terms s.args.g s.args.ids.now s.args.file.now x) ∙ first_column s.args.g s.args.ids.now s.args.file.now (omega arith)), omega arith)
-
-pub overflow_add-u : goal.overflow_add-u
-overflow_add-u c = omega arith
+    (sym (sum_one counts (λ x. column_terms s.args.senders.now.g s.args.senders.now.ids.now s.args.file.now x) ∙ first_column s.args.senders.now.g s.args.senders.now.ids.now s.args.file.now (omega arith)), omega arith)
 
 pub of_column-count-requires : goal.of_column-count-requires
 of_column-count-requires c = (c.requires, omega arith, omega arith)
@@ -26,17 +23,14 @@ of_column-count-requires c = (c.requires, omega arith, omega arith)
 pub overflow_add-count : goal.overflow_add-count
 overflow_add-count c = omega (arith, c.of_column-count.ensures.1)
 
-pub loop-u-smaller : goal.loop-u-smaller
-loop-u-smaller c = omega arith
-
 pub loop-u-preserved : goal.loop-u-preserved
 loop-u-preserved c =
     let l = c.loop-u in
-    (omega arith, omega arith, ap₂ ◌+◌ l.invariant.2 c.of_column-count.ensures.0 ∙ sym (sum_more counts l.u _), omega (arith, c.of_column-count.ensures.1))
+    (ap₂ ◌+◌ l.invariant.0 c.of_column-count.ensures.0 ∙ sym (sum_more counts l.u _), omega (arith, c.of_column-count.ensures.1))
 
 pub returns : goal.returns
 returns c =
     let l = c.loop-u in
     let a = c.args in
-    let done : l.u ≡ a.g.d = omega arith in
-    l.invariant.2 ∙ ap (λ m. sum counts m (λ x. column_terms a.g a.ids.now a.file.now x)) done ∙ file_count a.g a.ids.now a.file.now (omega arith)
+    let done : l.u ≡ a.senders.now.g.d = omega arith in
+    l.invariant.0 ∙ ap (λ m. sum counts m (λ x. column_terms a.senders.now.g a.senders.now.ids.now a.file.now x)) done ∙ file_count a.senders.now.g a.senders.now.ids.now a.file.now (omega arith)

@@ -1,12 +1,9 @@
--- `checks::strictly_falling` meets its contract: at i, the ids from the one before i on decide.
+-- `strictly_falling` meets its contract: at i, the ids from the one before i on decide.
 use mathlib.Core.Path.{◌≡◌}
-use Prim.Native.Nat.{◌≤◌, ◌-◌}
-use lib.ListN.{length, drop}
+use Prim.Native.Nat.{◌-◌}
+use lib.ListN.{drop}
 use Rattle.ids.specs.Ids.{falling}
 use Rattle.ids.proofs.strictly_falling.Given as goal
 
 abbrev pub invariant-loop-i : goal.invariant-loop-i
-invariant-loop-i l = (1 ≤ l.i) × (falling l.ids ≡ falling (drop (l.i - 1) l.ids))
-
-abbrev pub decreases-loop-i : goal.decreases-loop-i
-decreases-loop-i l = length l.ids - l.i
+invariant-loop-i l = falling l.ids ≡ falling (drop (l.i - 1) l.ids)

@@ -8,4 +8,4 @@ unfolding row_for_kind
 returns-then-kind-eq-PREVIEWS c = rw c.if-kind-eq-PREVIEWS.true
 
 pub returns : goal.returns
-returns c = rw c.less_one-most.ensures (other_limits _ _ _ c.if-kind-eq-PREVIEWS.false)
+returns c = rw c.saturating_sub-most.ensures (other_limits _ _ _ c.if-kind-eq-PREVIEWS.false)

@@ -1,7 +1,7 @@
 -- `laying::lay_packets` meets its contract: after j turns the first j packets stand one after another at the front, up to `end`.
 use native.Mathlib.Omega.{arith}
 use mathlib.Core.Path.{refl, sym, ◌∙◌}
-use Prim.Native.Nat.{◌+◌, ◌-◌}
+use Prim.Native.Nat.{◌+◌}
 use Rattle.lengths.proofs.Sizes.{node_at_most, packet_fits}
 use Rattle.sequences.specs.Lists.{joined}
 use Rattle.matrix.proofs.Product.{packet_same, packet_first}
@@ -12,46 +12,45 @@ pub loop-j-init : goal.loop-j-init
 unfolding joined
 loop-j-init c =
     let s = c in
-    (omega arith, refl, sym (packet_first s.args.g s.args.node), refl)
+    (refl, sym (packet_first s.args.encoding.now.g s.args.encoding.now.node), refl)
 
 pub overflow_add-end : goal.overflow_add-end
 overflow_add-end c =
     let s = c in
     let l = c.loop-j in
-    omega (arith, node_at_most s.args.g s.args.node s.requires.node.0, packet_fits s.args.g s.args.node s.requires.node.0 (l.j + 1) (omega arith) (omega arith), l.invariant.2, s.requires.node.1, packet_same s.args.g s.args.node 1 (l.j + 1))
+    omega (arith, node_at_most s.args.encoding.now.g s.args.encoding.now.node s.args.encoding.now.known, packet_fits s.args.encoding.now.g s.args.encoding.now.node s.args.encoding.now.known (l.j + 1) (omega arith) (omega arith), l.invariant.1, s.args.encoding.now.sized, packet_same s.args.encoding.now.g s.args.encoding.now.node 1 (l.j + 1))
 
 pub slice_bounds-lay_packet-end : goal.slice_bounds-lay_packet-end
-slice_bounds-lay_packet-end c = sym c.shift_row-shifts.ensures.size
+slice_bounds-lay_packet-end c = sym c.row-shifts.ensures.size
 
 pub slice_bounds-lay_packet-end-in-loop-j : goal.slice_bounds-lay_packet-end-in-loop-j
 slice_bounds-lay_packet-end-in-loop-j c =
     let s = c in
     let l = c.loop-j in
-    omega (arith, s.requires.lengths.1, l.invariant.1, packet_fits s.args.g s.args.node s.requires.node.0 (l.j + 1) (omega arith) (omega arith), l.invariant.2, s.requires.node.1, packet_same s.args.g s.args.node 1 (l.j + 1))
+    omega (arith, s.requires.lengths, l.invariant.0, packet_fits s.args.encoding.now.g s.args.encoding.now.node s.args.encoding.now.known (l.j + 1) (omega arith) (omega arith), l.invariant.1, s.args.encoding.now.sized, packet_same s.args.encoding.now.g s.args.encoding.now.node 1 (l.j + 1))
 
 pub lay_packet-requires : goal.lay_packet-requires
 lay_packet-requires c =
     let s = c in
     let l = c.loop-j in
-    let sized = s.requires.node.1 ∙ packet_same s.args.g s.args.node 1 (l.j + 1) in record { shifts = c.shift_row-shifts.ensures; node = (s.requires.node.0, omega arith, omega arith, sized, omega arith); lengths = (s.requires.lengths.0, lent s.args.g s.args.node s.requires.node.0 l.packets l.j _ _ (omega arith) (l.invariant.1 ∙ s.requires.lengths.1) l.invariant.2 sized) }
+    let sized = s.args.encoding.now.sized ∙ packet_same s.args.encoding.now.g s.args.encoding.now.node 1 (l.j + 1) in record { shifts = c.row-shifts.ensures; column = (omega arith, omega arith, c.requires.size); letters = lent s.args.encoding.now.g s.args.encoding.now.node s.args.encoding.now.known l.packets l.j _ _ (omega arith) (l.invariant.0 ∙ s.requires.lengths) l.invariant.1 sized }
 
 pub loop-j-preserved : goal.loop-j-preserved
 loop-j-preserved c =
     let s = c in
     let l = c.loop-j in
-    let long = l.invariant.1 ∙ s.requires.lengths.1 in
-    let sized = s.requires.node.1 ∙ packet_same s.args.g s.args.node 1 (l.j + 1) in (
-      omega arith,
-      kept s.args.g s.args.node s.requires.node.0 s.args.file.now l.packets _ l.j _ _ (omega arith) long l.invariant.2 sized l.invariant.3 c.lay_packet.ensures ∙ l.invariant.1,
-      ends s.args.g s.args.node l.j _ _ l.invariant.2 sized,
-      next s.args.g s.args.node s.requires.node.0 s.args.file.now l.packets _ l.j _ _ (omega arith) long l.invariant.2 sized l.invariant.3 c.lay_packet.ensures,
+    let long = l.invariant.0 ∙ s.requires.lengths in
+    let sized = s.args.encoding.now.sized ∙ packet_same s.args.encoding.now.g s.args.encoding.now.node 1 (l.j + 1) in (
+      kept s.args.encoding.now.g s.args.encoding.now.node s.args.encoding.now.known s.args.encoding.now.file.now l.packets _ l.j _ _ (omega arith) long l.invariant.1 sized l.invariant.2 c.lay_packet.ensures ∙ l.invariant.0,
+      ends s.args.encoding.now.g s.args.encoding.now.node l.j _ _ l.invariant.1 sized,
+      next s.args.encoding.now.g s.args.encoding.now.node s.args.encoding.now.known s.args.encoding.now.file.now l.packets _ l.j _ _ (omega arith) long l.invariant.1 sized l.invariant.2 c.lay_packet.ensures,
     )
 
 pub shape_of-packets : goal.shape_of-packets
-shape_of-packets c = c.loop-j.invariant.1
+shape_of-packets c = c.loop-j.invariant.0
 
 pub returns : goal.returns
 returns c =
     let s = c in
     let l = c.loop-j in
-    all_packets s.args.g s.args.node s.args.file.now l.packets l.j l.end (omega arith) l.invariant.2 (l.invariant.1 ∙ s.requires.lengths.1) l.invariant.3
+    all_packets s.args.encoding.now.g s.args.encoding.now.node s.args.encoding.now.file.now l.packets l.j l.end (omega arith) l.invariant.1 (l.invariant.0 ∙ s.requires.lengths) l.invariant.2

@@ -1,6 +1,6 @@
 -- `laying::lay_packets` meets its contract: after j turns the first j packets stand one after another at the front, up to `end`.
 use mathlib.Core.Path.{◌≡◌}
-use Prim.Native.Nat.{◌≤◌, ◌+◌, ◌-◌}
+use Prim.Native.Nat.{◌+◌}
 use lib.ListN.{length, take}
 use Rattle.letters.specs.Algebra.{xors}
 use Rattle.lengths.specs.Lengths.{packet_start}
@@ -9,7 +9,4 @@ use Rattle.matrix.specs.Matrix.{packet}
 use Rattle.laid_packets.proofs.lay_packets.Given as goal
 
 abbrev pub invariant-loop-j : goal.invariant-loop-j
-invariant-loop-j l = (l.j ≤ l.g.d) × (length l.packets ≡ length l.initial.packets) × (l.end ≡ packet_start l.g l.node (l.j + 1)) × (take l.end l.packets ≡ joined l.j (packet xors l.g l.file l.node))
-
-abbrev pub decreases-loop-j : goal.decreases-loop-j
-decreases-loop-j l = l.g.d - l.j
+invariant-loop-j l = (length l.packets ≡ length l.initial.packets) × (l.end ≡ packet_start l.encoding.g l.encoding.node (l.j + 1)) × (take l.end l.packets ≡ joined l.j (packet xors l.encoding.g l.encoding.file.now l.encoding.node))

@@ -1,12 +1,9 @@
 -- `seen` meets its contract: all letters before index at are the same.
 use native.Mathlib.Omega.{arith}
 use Prim.Native.Nat.{◌+◌}
-use Rattle.matching.proofs.HowFar.{same_none, same_all}
+use Rattle.matching.proofs.HowFar.{same_all}
 use Rattle.matching_windows.proofs.Parts.{seen_on, ends_in_part, whole_part}
 use Rattle.matching_windows.proofs.seen.Goals as goal
-
-pub loop-at-init : goal.loop-at-init
-loop-at-init c = same_none _ _
 
 pub returns-then-same-end : goal.returns-then-same-end
 returns-then-same-end c =

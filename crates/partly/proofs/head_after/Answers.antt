@@ -24,31 +24,24 @@ whole h at first bytes offset some le all e =
     same_numbers first (take at (head_record h) ++ bytes) (λ p hi. e p (omega (arith, ap head_size kind)))
 
 pub loop-next-init : goal.loop-next-init
-loop-next-init c = (omega arith, refl, λ p h. absurd (omega arith), c.head_size-size.ensures)
+loop-next-init c = (refl, λ p h. absurd (omega arith), c.head_size-size.ensures)
 
 pub bounds-first-next : goal.bounds-first-next
 bounds-first-next c =
-    let l = c in omega (arith, l.loop-next.invariant.3, size_small l.args.head.kind)
-
-pub overflow_add-next : goal.overflow_add-next
-overflow_add-next c = omega arith
-
-pub loop-next-smaller : goal.loop-next-smaller
-loop-next-smaller c = omega arith
+    let l = c in omega (arith, l.loop-next.invariant.2, size_small l.args.head.kind)
 
 pub loop-next-preserved : goal.loop-next-preserved
 loop-next-preserved c =
     let l = c in (
-      omega arith,
-      simp length-set l.loop-next.invariant.1,
+      simp length-set l.loop-next.invariant.0,
       below_more _ _
-          (λ p h. get_or-set_other l.loop-next.first l.loop-next.next p _ 0 (λ same. omega arith) ∙ l.loop-next.invariant.2 p h)
+          (λ p h. get_or-set_other l.loop-next.first l.loop-next.next p _ 0 (λ same. omega arith) ∙ l.loop-next.invariant.1 p h)
           (get_or-set_same l.loop-next.first l.loop-next.next _ 0 (omega (arith, size_small l.args.head.kind)) ∙ c.byte_after.ensures),
-      l.loop-next.invariant.3,
+      l.loop-next.invariant.2,
     )
 
 pub returns : goal.returns
 returns c =
     let l = c in
     let s = l in
-    c.head_in.ensures ∙ whole s.args.head s.args.at l.loop-next.first _ l.loop-next.next s.requires.1 s.requires.2 (omega (arith, l.loop-next.invariant.3)) l.loop-next.invariant.2
+    c.head_in.ensures ∙ whole s.args.head s.args.at l.loop-next.first _ l.loop-next.next s.requires.1 s.requires.2 (omega (arith, l.loop-next.invariant.2)) l.loop-next.invariant.1

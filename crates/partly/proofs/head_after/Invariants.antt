@@ -8,7 +8,4 @@ use Rattle.heads.specs.Heads.{head_record}
 use Rattle.partly.proofs.head_after.Given as goal
 
 abbrev pub invariant-loop-next : goal.invariant-loop-next
-invariant-loop-next l = (l.next ≤ l.size) × (length l.first ≡ 13) × ((p : ℕ) → p < l.next → get_or l.first p 0 ≡ get_or (take l.at (head_record l.head) ++ l.bytes) p 0) × (l.size ≡ head_size l.head.kind)
-
-abbrev pub decreases-loop-next : goal.decreases-loop-next
-decreases-loop-next l = l.size - l.next
+invariant-loop-next l = (length l.first ≡ 13) × ((p : ℕ) → p < l.next → get_or l.first p 0 ≡ get_or (take l.at (head_record l.head) ++ l.bytes) p 0) × (l.size ≡ head_size l.head.kind)

@@ -17,36 +17,29 @@ pub returns-then-not-fits : goal.returns-then-not-fits
 returns-then-not-fits c = refuted (λ w. not_both _ (c.fits.ensures.1 w.fits) c.if-not-fits.true)
 
 pub loop-offset-init : goal.loop-offset-init
-loop-offset-init c = (omega arith, c.head_size-size.ensures, c.fits.ensures.0 c.if-not-fits.false, λ p hi. absurd (omega arith))
+loop-offset-init c = (c.head_size-size.ensures, c.fits.ensures.0 c.if-not-fits.false, λ p hi. absurd (omega arith))
 
 pub byte_fits-requires : goal.byte_fits-requires
-byte_fits-requires c = (c.loop-offset.invariant.2, omega (arith, c.loop-offset.invariant.1))
+byte_fits-requires c = (c.loop-offset.invariant.1, omega (arith, c.loop-offset.invariant.0))
 
 pub returns-then-not-byte_fits : goal.returns-then-not-byte_fits
 returns-then-not-byte_fits c =
     let l = c in
-    refuted (λ w. not_both _ (w.each l.loop-offset.offset (omega (arith, l.loop-offset.invariant.1))) (sym c.byte_fits.ensures ∙ c.if-not-byte_fits.true))
-
-pub overflow_add-offset : goal.overflow_add-offset
-overflow_add-offset c = omega arith
-
-pub loop-offset-smaller : goal.loop-offset-smaller
-loop-offset-smaller c = omega arith
+    refuted (λ w. not_both _ (w.each l.loop-offset.offset (omega (arith, l.loop-offset.invariant.0))) (sym c.byte_fits.ensures ∙ c.if-not-byte_fits.true))
 
 pub loop-offset-preserved : goal.loop-offset-preserved
 loop-offset-preserved c =
     let l = c in (
-      omega arith,
+      l.loop-offset.invariant.0,
       l.loop-offset.invariant.1,
-      l.loop-offset.invariant.2,
       λ p hi.
           ⊎_elim
           (λ last.
           let e : p ≡ l.loop-offset.offset = omega arith in
           rw e (sym c.byte_fits.ensures ∙ c.if-not-byte_fits.false))
-          (l.loop-offset.invariant.3 p) (le_or_lt l.loop-offset.offset p),
+          (l.loop-offset.invariant.2 p) (le_or_lt l.loop-offset.offset p),
     )
 
 pub returns : goal.returns
 returns c =
-    let i = c.loop-offset.invariant in affirmed (record { fits = i.2; each = λ p hi. i.3 p (omega (arith, i.1)) })
+    let i = c.loop-offset.invariant in affirmed (record { fits = i.1; each = λ p hi. i.2 p (omega (arith, i.0)) })

@@ -7,7 +7,4 @@ use Rattle.heads.specs.Steps.Partly.{HeadFits, partly_at}
 use Rattle.partly.proofs.partly_in.Given as goal
 
 abbrev pub invariant-loop-offset : goal.invariant-loop-offset
-invariant-loop-offset l = (l.offset ≤ l.size) × (l.size ≡ head_size l.head.kind) × HeadFits l.head × ((p : ℕ) → p < l.offset → partly_at l.head l.at p ≡ true)
-
-abbrev pub decreases-loop-offset : goal.decreases-loop-offset
-decreases-loop-offset l = l.size - l.offset
+invariant-loop-offset l = (l.size ≡ head_size l.head.kind) × HeadFits l.head × ((p : ℕ) → p < l.offset → partly_at l.head l.at p ≡ true)

@@ -6,7 +6,4 @@ use Rattle.agreement.specs.Agreement.{letters_of}
 use Rattle.present.proofs.starts.Given as goal
 
 abbrev pub invariant-loop-v : goal.invariant-loop-v
-invariant-loop-v l = (l.v ≤ length l.ids) × (length l.starts ≡ 17) × (l.end ≡ letters_of l.g l.ids l.v) × ((i : ℕ) → i ≤ l.v → get_or l.starts i 0 ≡ letters_of l.g l.ids i)
-
-abbrev pub decreases-loop-v : goal.decreases-loop-v
-decreases-loop-v l = length l.ids - l.v
+invariant-loop-v l = (length l.starts ≡ 17) × (l.end ≡ letters_of l.g l.ids l.v) × ((i : ℕ) → i ≤ l.v → get_or l.starts i 0 ≡ letters_of l.g l.ids i)

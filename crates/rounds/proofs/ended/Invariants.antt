@@ -1,10 +1,7 @@
 -- `ended` meets its contract: all ranks up to `b` have ended, and the next is looked at.
-use Prim.Native.Nat.{◌+◌, ◌-◌, ◌≤◌}
+use Prim.Native.Nat.{◌+◌, ◌≤◌}
 use Rattle.one_turn.specs.Tables.{nth}
 use Rattle.rounds.proofs.ended.Given as goal
 
 abbrev pub invariant-loop-b : goal.invariant-loop-b
-invariant-loop-b l = (l.b ≤ l.hi) × (1 ≤ l.b → l.n + nth l.delays l.b ≤ l.done)
-
-abbrev pub decreases-loop-b : goal.decreases-loop-b
-decreases-loop-b l = l.hi - l.b
+invariant-loop-b l = 1 ≤ l.b → l.n + nth l.delays l.b ≤ l.done

@@ -14,41 +14,41 @@ use Rattle.solved_columns.proofs.recover_column.Goals as goal
 pub overflow_mul-start : goal.overflow_mul-start
 overflow_mul-start c =
     let s = c in
-    omega (arith, mul-le-mul {n₁ = c.sequences_before.result} {m₁ = s.args.g.l} {n₂ = 360} {m₂ = longest} (omega arith) (omega arith))
+    omega (arith, mul-le-mul {n₁ = c.sequences_before.result} {m₁ = s.args.senders.now.g.l} {n₂ = 360} {m₂ = longest} (omega arith) (omega arith))
 
 pub overflow_mul-end : goal.overflow_mul-end
 overflow_mul-end c =
     let s = c in
-    omega (arith, mul-le-mul {n₁ = c.sequences_before.result} {m₁ = s.args.g.l} {n₂ = 360} {m₂ = longest} (omega arith) (omega arith), mul-le-mul {n₁ = c.lesser-s.result} {m₁ = s.args.g.l} {n₂ = 16} {m₂ = longest} (omega (arith, c.lesser-s.ensures)) (omega arith))
+    omega (arith, mul-le-mul {n₁ = c.sequences_before.result} {m₁ = s.args.senders.now.g.l} {n₂ = 360} {m₂ = longest} (omega arith) (omega arith), mul-le-mul {n₁ = c.min-s.result} {m₁ = s.args.senders.now.g.l} {n₂ = 16} {m₂ = longest} (omega (arith, c.min-s.ensures)) (omega arith))
 
 pub overflow_add-end : goal.overflow_add-end
 overflow_add-end c =
     let s = c in
-    omega (arith, mul-le-mul {n₁ = c.sequences_before.result} {m₁ = s.args.g.l} {n₂ = 360} {m₂ = longest} (omega arith) (omega arith), mul-le-mul {n₁ = c.lesser-s.result} {m₁ = s.args.g.l} {n₂ = 16} {m₂ = longest} (omega (arith, c.lesser-s.ensures)) (omega arith))
+    omega (arith, mul-le-mul {n₁ = c.sequences_before.result} {m₁ = s.args.senders.now.g.l} {n₂ = 360} {m₂ = longest} (omega arith) (omega arith), mul-le-mul {n₁ = c.min-s.result} {m₁ = s.args.senders.now.g.l} {n₂ = 16} {m₂ = longest} (omega (arith, c.min-s.ensures)) (omega arith))
 
 pub slice_bounds-solve-end : goal.slice_bounds-solve-end
 slice_bounds-solve-end c =
     let s = c in
     let q = c.pull_column in
-    let collected : Collected s.args.g s.args.ids.now q.new.buffer = record { chosen = s.requires.0.chosen; long = q.ensures.same_length ∙ s.requires.0.long } in
-    omega (arith, column_fits s.args.g s.args.ids.now q.new.buffer collected s.args.u (omega arith) (omega arith), (ap (λ m. m * s.args.g.l) c.sequences_before.ensures.0), (ap (λ m. c.sequences_before.result * s.args.g.l + m * s.args.g.l) c.lesser-s.ensures))
+    let collected : Collected s.args.senders.now.g s.args.senders.now.ids.now q.new.buffer = record { chosen = s.args.senders.now.chosen; long = q.ensures.same_length ∙ s.requires.0 } in
+    omega (arith, column_fits s.args.senders.now.g s.args.senders.now.ids.now q.new.buffer collected s.args.u (omega arith) (omega arith), (ap (λ m. m * s.args.senders.now.g.l) c.sequences_before.ensures.0), (ap (λ m. c.sequences_before.result * s.args.senders.now.g.l + m * s.args.senders.now.g.l) c.min-s.ensures))
 
 pub solve-requires : goal.solve-requires
 solve-requires c =
     let s = c in
     let q = c.pull_column in
-    let collected : Collected s.args.g s.args.ids.now q.new.buffer = record { chosen = s.requires.0.chosen; long = q.ensures.same_length ∙ s.requires.0.long } in record {
-      system = subst (λ m. Solvable m s.args.g.l s.args.rows.now) (sym c.lesser-s.ensures)
-          (solvable _ _ _ s.requires.1 _ (ranks _ _ _ s.requires.0.chosen (omega arith)) _ (omega arith) (omega arith) s.args.g.l (omega arith) (omega arith));
-      letters = lent_length s.args.g s.args.ids.now q.new.buffer collected s.args.u (omega arith) (omega arith) _ _ (ap (λ m. m * s.args.g.l) c.sequences_before.ensures.0) (ap (λ m. c.sequences_before.result * s.args.g.l + m * s.args.g.l) c.lesser-s.ensures) ∙ ap (λ m. m * s.args.g.l) (sym c.lesser-s.ensures);
+    let collected : Collected s.args.senders.now.g s.args.senders.now.ids.now q.new.buffer = record { chosen = s.args.senders.now.chosen; long = q.ensures.same_length ∙ s.requires.0 } in record {
+      system = subst (λ m. Solvable m s.args.senders.now.g.l s.args.senders.now.rows.now) (sym c.min-s.ensures)
+          (solvable _ _ _ s.args.senders.now.shifts _ (ranks _ _ _ s.args.senders.now.chosen (omega arith)) _ (omega arith) (omega arith) s.args.senders.now.g.l (omega arith) (omega arith));
+      letters = lent_length s.args.senders.now.g s.args.senders.now.ids.now q.new.buffer collected s.args.u (omega arith) (omega arith) _ _ (ap (λ m. m * s.args.senders.now.g.l) c.sequences_before.ensures.0) (ap (λ m. c.sequences_before.result * s.args.senders.now.g.l + m * s.args.senders.now.g.l) c.min-s.ensures) ∙ ap (λ m. m * s.args.senders.now.g.l) (sym c.min-s.ensures);
     }
 
 pub returns : goal.returns
 returns c =
     let s = c in
     let q = c.pull_column in
-    let collected : Collected s.args.g s.args.ids.now q.new.buffer = record { chosen = s.requires.0.chosen; long = q.ensures.same_length ∙ s.requires.0.long } in
+    let collected : Collected s.args.senders.now.g s.args.senders.now.ids.now q.new.buffer = record { chosen = s.args.senders.now.chosen; long = q.ensures.same_length ∙ s.requires.0 } in
     let v = c.solve in
-    column_done s.args.g s.args.ids.now q.new.buffer collected s.args.u (omega arith) (omega arith) _ _ (ap (λ m. m * s.args.g.l) c.sequences_before.ensures.0) (ap (λ m. c.sequences_before.result * s.args.g.l + m * s.args.g.l) c.lesser-s.ensures) v.new.part (v.ensures.same_length ∙ lent_size s.args.g s.args.ids.now q.new.buffer collected s.args.u (omega arith) (omega arith) _ _ (ap (λ m. m * s.args.g.l) c.sequences_before.ensures.0) (ap (λ m. c.sequences_before.result * s.args.g.l + m * s.args.g.l) c.lesser-s.ensures)) s.args.rows.now _ s.requires.1
+    column_done s.args.senders.now.g s.args.senders.now.ids.now q.new.buffer collected s.args.u (omega arith) (omega arith) _ _ (ap (λ m. m * s.args.senders.now.g.l) c.sequences_before.ensures.0) (ap (λ m. c.sequences_before.result * s.args.senders.now.g.l + m * s.args.senders.now.g.l) c.min-s.ensures) v.new.part (v.ensures.same_length ∙ lent_size s.args.senders.now.g s.args.senders.now.ids.now q.new.buffer collected s.args.u (omega arith) (omega arith) _ _ (ap (λ m. m * s.args.senders.now.g.l) c.sequences_before.ensures.0) (ap (λ m. c.sequences_before.result * s.args.senders.now.g.l + m * s.args.senders.now.g.l) c.min-s.ensures)) s.args.senders.now.rows.now _ s.args.senders.now.shifts
     q.ensures
-    (solved_as _ _ _ _ _ _ c.lesser-s.ensures v.ensures)
+    (solved_as _ _ _ _ _ _ c.min-s.ensures v.ensures)

@@ -6,33 +6,25 @@ use native.Mathlib.Omega.{arith}
 use Rattle.solved_columns.proofs.recover_columns.Goals as goal
 
 pub loop-u-init : goal.loop-u-init
-loop-u-init c = (omega arith, stage_start _ _ _)
+loop-u-init c = stage_start _ _ _
 
 pub recover_column-requires : goal.recover_column-requires
 recover_column-requires c =
     let s = c in
     let l = c.loop-u in
-    (record { chosen = s.requires.0.chosen; long = l.invariant.1.same_length ∙ s.requires.0.long }, s.requires.1, omega arith, omega arith)
-
-pub overflow_sub-u : goal.overflow_sub-u
-overflow_sub-u c = omega arith
-
-pub loop-u-smaller : goal.loop-u-smaller
-loop-u-smaller c = omega arith
+    (l.invariant.same_length ∙ s.requires, omega arith, omega arith)
 
 pub loop-u-preserved : goal.loop-u-preserved
 loop-u-preserved c =
-    let l = c.loop-u in (
-      omega arith,
-      stage_next _ _ l.u (omega arith) (omega arith) _ _ _ l.invariant.1 c.recover_column.ensures,
-    )
+    let l = c.loop-u in
+    stage_next _ _ l.u (omega arith) (omega arith) _ _ _ l.invariant c.recover_column.ensures
 
 pub shape_of-buffer : goal.shape_of-buffer
-shape_of-buffer c = c.loop-u.invariant.1.same_length
+shape_of-buffer c = c.loop-u.invariant.same_length
 
 pub returns : goal.returns
 returns c =
     let l = c.loop-u in
     let s = c in
     let done : l.u ≡ 0 = omega arith in
-    subst (λ m. Stage s.args.g s.args.ids.now m s.args.buffer.now l.buffer) done l.invariant.1
+    subst (λ m. Stage s.args.senders.now.g s.args.senders.now.ids.now m s.args.buffer.now l.buffer) done l.invariant

@@ -4,7 +4,4 @@ use Rattle.solved_columns.specs.Steps.Recovery.{Stage}
 use Rattle.solved_columns.proofs.recover_columns.Given as goal
 
 abbrev pub invariant-loop-u : goal.invariant-loop-u
-invariant-loop-u l = (l.u ≤ l.g.d) × Stage l.g l.ids l.u l.initial.buffer l.buffer
-
-abbrev pub decreases-loop-u : goal.decreases-loop-u
-decreases-loop-u l = l.u
+invariant-loop-u l = Stage l.senders.g l.senders.ids.now l.u l.initial.buffer l.buffer

@@ -2,41 +2,34 @@
 use native.Mathlib.Omega.{arith}
 use mathlib.Core.Path.{◌∙◌}
 use Prim.Native.Nat.{◌+◌}
+use Rattle.one_turn.proofs.Tables.{nth_next, tables_fewer}
 use Rattle.solving.proofs.Tiles.{runs_apart, tile_done}
-use Rattle.one_turn.proofs.Tables.{tables_fewer}
-use Rattle.rounds.proofs.ByRank.{nth_next}
 use Rattle.solving.proofs.solve_tile.Goals as goal
 
-pub starts-starts-requires : goal.starts-starts-requires
-starts-starts-requires c =
-    let s = c in record {
-      hi_bound = (omega (arith, s.requires.tile.0.few, s.requires.system.1.tables.few), s.requires.system.1.tables.waits, s.requires.system.0.few_letters, omega (arith, s.requires.tile.1));
-      begun = λ i lo h. omega (
-        arith,
-        nth_next s.args.delays.now i,
-        s.requires.system.1.waits.each (i + 1) (omega arith) (omega (arith, s.requires.tile.0.few)),
-        s.requires.tile.0.begun (i + 1) (omega arith) (omega arith),
-      );
-    }
+pub starts-starts-requires-clause-begun : goal.starts-starts-requires-clause-begun
+starts-starts-requires-clause-begun c =
+    let t = c.args.tile.now in
+    λ i lo h. omega (
+      arith,
+      nth_next t.system.delays.now i,
+      t.system.waits.each (i + 1) (omega arith) (omega (arith, t.tile.few)),
+      t.tile.begun (i + 1) (omega arith) (omega arith),
+    )
 
-pub take_out-requires : goal.take_out-requires
-take_out-requires c =
-    let s = c in
-    record { system = s.requires.system.0; delays = s.requires.system.1.waits; letters = s.requires.letters; tile = s.requires.tile.0 }
+pub invariant_of-ranks : goal.invariant_of-ranks
+invariant_of-ranks c = record { tables = tables_fewer _ _ _ _ c.args.tile.now.tile.few c.requires.tables.tables }
 
 pub solve-requires : goal.solve-requires
 solve-requires c =
-    let s = c in record {
-      tables = (tables_fewer _ _ _ _ s.requires.tile.0.few s.requires.system.1.tables, s.requires.tile.0.ranks);
-      runs = runs_apart s.args.s s.args.n s.args.rows.now
-          s.args.exps.now s.args.delays.now _ s.requires.system.1 s.args.done s.args.count s.args.below s.args.hi s.requires.tile.0
-          c.starts-starts.ensures _ (c.take_out.ensures.same_length ∙ s.requires.letters);
+    let t = c.args.tile.now in
+    record {
+      ranks = t.tile.ranks;
+      runs = runs_apart t.system.s t.system.n t.system.rows.now c.args.exps.now t.system.delays.now _ c.requires.tables t.done t.count t.below t.hi t.tile
+          c.starts-starts.ensures _ (c.take_out.ensures.same_length ∙ c.requires.letters);
     }
 
 pub returns : goal.returns
 returns c =
-    let s = c in
-    tile_done s.args.s s.args.n s.args.rows.now s.args.exps.now s.args.delays.now _ s.requires.system.1 s.args.done s.args.count
-    s.args.below s.args.hi s.requires.tile.0 c.starts-starts.ensures
-    s.requires.system.0 _ _ _ c.take_out.ensures c.solve.ensures.solved
-    c.solve.ensures.only
+    let t = c.args.tile.now in
+    tile_done t.system.s t.system.n t.system.rows.now c.args.exps.now t.system.delays.now _ c.requires.tables t.done t.count t.below t.hi t.tile
+    c.starts-starts.ensures t.system.solvable _ _ _ c.take_out.ensures c.solve.ensures.solved c.solve.ensures.only

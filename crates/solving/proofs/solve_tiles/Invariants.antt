@@ -11,8 +11,9 @@ use Rattle.solving.proofs.solve_tiles.Given as goal
 
 abbrev pub invariant-loop-done : goal.invariant-loop-done
 invariant-loop-done l =
-    (length l.part ≡ length l.initial.part) × Begun l.s l.delays 0 l.done l.hi × Ended l.n l.hi l.delays 0 l.done l.below × Through xors l.s l.n (shift_in l.rows) (sequence 0 l.initial.part l.n)
-    (sequence 0 l.part l.n) l.done × (l.done ≤ 2 ^ 33)
+    let y = l.system in
+    (length l.part ≡ length l.initial.part) × Begun y.s y.delays.now 0 l.done l.hi × Ended y.n l.hi y.delays.now 0 l.done l.below
+    × Through xors y.s y.n (shift_in y.rows.now) (sequence 0 l.initial.part y.n) (sequence 0 l.part y.n) l.done × (l.done ≤ 2 ^ 33)
 
 abbrev pub decreases-loop-done : goal.decreases-loop-done
 decreases-loop-done l = l.rounds - l.done

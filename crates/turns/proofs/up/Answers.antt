@@ -7,22 +7,19 @@ use Rattle.one_turn.proofs.Turns.{way_up_start, way_up_more}
 use Rattle.turns.proofs.up.Goals as goal
 
 pub loop-j-init : goal.loop-j-init
-loop-j-init c = (omega arith, omega arith, way_up_start _ _ _ _ _ _ c.requires.runs)
+loop-j-init c = way_up_start _ _ _ _ _ _ c.requires.runs
 
 pub up_turn-requires : goal.up_turn-requires
 up_turn-requires c =
-    record { tables = (c.requires.tables.0, c.requires.tables.1, omega arith, omega arith); runs = apart_later _ _ _ _ _ _ _ (omega arith) c.loop-j.invariant.2.only.same_length c.requires.runs }
+    let t = c.args.ranks.now.tables in
+    record { tables = (t.ordered, t.exponents, omega arith, omega arith); runs = apart_later _ _ _ _ _ _ _ (omega arith) c.loop-j.invariant.only.same_length c.requires.runs }
 
 pub loop-j-preserved : goal.loop-j-preserved
-loop-j-preserved c = (
-  omega arith,
-  omega arith,
-  way_up_more _ _ _ _ _ _ _ _ _ (omega arith)
-      (apart_later _ _ _ _ _ _ _ (omega arith) c.loop-j.invariant.2.only.same_length
-      c.requires.runs) c.loop-j.invariant.2
-      c.up_turn.ensures,
-)
+loop-j-preserved c =
+    let l = c.loop-j in
+    way_up_more _ _ _ _ _ (l.j - 1) _ _ _ (omega arith)
+    (apart_later _ _ _ _ _ _ _ (omega arith) l.invariant.only.same_length c.requires.runs) l.invariant c.up_turn.ensures
 
 pub returns : goal.returns
 returns c =
-    let e : c.loop-j.j - 1 - c.args.below ≡ 0 = omega arith in rw e at c.loop-j.invariant.2
+    let e : c.loop-j.j - 1 - c.args.below ≡ 0 = omega arith in rw e at c.loop-j.invariant

@@ -1,30 +1,20 @@
 -- `eights::add_rest` meets its contract: a block goes in where there is one.
-use mathlib.Core.Path.{sym}
-use Prim.Native.Nat.{◌+◌, ◌≤◌}
-use native.Mathlib.Omega.{arith}
-use lib.ListN.{length}
+use Rattle.std.proofs.Common.{sym, arith, length}
 use Rattle.letters.specs.Algebra.{xors}
 use Rattle.letters.proofs.Runs.{added_none}
 use Rattle.letters.proofs.Rests.{no_block, one_block, block_fits, in_run}
 use Rattle.adding.proofs.eights.add_rest.Goals as goal
 
 pub returns-then-run-width : goal.returns-then-run-width
-returns-then-run-width c =
-    let a = c.args in
-    record { letters = sym (added_none xors a.into.now (a.at + a.start)); count = no_block (length a.run.now) a.width a.start (omega arith) (omega arith) }
+returns-then-run-width c = record { letters = sym (added_none xors _ _); count = no_block _ _ _ (omega arith) (omega arith) }
 
 pub overflow_add-at : goal.overflow_add-at
-overflow_add-at c =
-    let a = c.args in
-    omega (arith, in_run (length a.run.now) a.width a.start (omega arith))
+overflow_add-at c = omega (arith, in_run (length c.args.run.now) c.args.width c.args.start (omega arith))
 
 pub add_block-requires : goal.add_block-requires
 add_block-requires c =
-    let a = c.args in
-    let fits : a.start + a.width ≤ length a.run.now = block_fits (length a.run.now) a.width a.start (omega arith) (omega arith) (omega arith) in
+    let fits = block_fits (length c.args.run.now) c.args.width c.args.start (omega arith) (omega arith) (omega arith) in
     (omega arith, omega arith, omega arith)
 
-pub returns : goal.returns
-returns c =
-    let a = c.args in
-    record { letters = c.add_block.ensures; count = one_block (length a.run.now) a.width a.start (omega arith) (omega arith) (omega arith) }
+pub returns-clause-count : goal.returns-clause-count
+returns-clause-count c = one_block _ _ _ (omega arith) (omega arith) (omega arith)

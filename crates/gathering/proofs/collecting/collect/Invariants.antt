@@ -7,7 +7,4 @@ use Rattle.gathering.specs.Steps.Gathered.{collected_without}
 use Rattle.gathering.proofs.collecting.collect.Given as goal
 
 abbrev pub invariant-loop-u : goal.invariant-loop-u
-invariant-loop-u l = (l.u ≤ l.g.d) × Laid l.initial.file l.file 0 (before l.g.k (l.u + 1) * l.g.l) (λ q. get_or (collected_without l.g l.ids l.packets l.without) q 0)
-
-abbrev pub decreases-loop-u : goal.decreases-loop-u
-decreases-loop-u l = l.g.d - l.u
+invariant-loop-u l = Laid l.initial.file l.file 0 (before l.nodes.g.k (l.u + 1) * l.nodes.g.l) (λ q. get_or (collected_without l.nodes.g l.nodes.ids.now l.nodes.packets.now l.without) q 0)

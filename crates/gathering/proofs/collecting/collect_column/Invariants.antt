@@ -8,7 +8,4 @@ use Rattle.gathering.specs.Steps.Gathered.{collected_without}
 use Rattle.gathering.proofs.collecting.collect_column.Given as goal
 
 abbrev pub invariant-loop-v : goal.invariant-loop-v
-invariant-loop-v l = (l.v ≤ l.sequences) × (l.at ≡ (entry_number l.g.k (l.v + 1) l.u - 1) * l.g.l) × Laid l.initial.file l.file (before l.g.k l.u * l.g.l) l.at (λ q. get_or (collected_without l.g l.ids l.packets l.without) q 0)
-
-abbrev pub decreases-loop-v : goal.decreases-loop-v
-decreases-loop-v l = l.sequences - l.v
+invariant-loop-v l = (l.at ≡ (entry_number l.nodes.g.k (l.v + 1) l.u - 1) * l.nodes.g.l) × Laid l.initial.file l.file (before l.nodes.g.k l.u * l.nodes.g.l) l.at (λ q. get_or (collected_without l.nodes.g l.nodes.ids.now l.nodes.packets.now l.without) q 0)

@@ -9,10 +9,7 @@ use Rattle.gathering.proofs.KeptIds.{kept_front}
 use Rattle.gathering.proofs.kept.ids.Goals as goal
 
 pub loop-v-init : goal.loop-v-init
-loop-v-init c = (omega arith, refl, λ i h. absurd (omega arith))
-
-pub rank-rank-requires : goal.rank-rank-requires
-rank-rank-requires c = omega arith
+loop-v-init c = (refl, λ i h. absurd (omega arith))
 
 pub overflow_sub-kept : goal.overflow_sub-kept
 overflow_sub-kept c = omega (arith, c.rank-rank.ensures, (passing c.args.without (c.loop-v.v + 1)).up)
@@ -29,9 +26,9 @@ bounds-kept-v c = omega (arith, c.requires.0)
 pub loop-v-preserved : goal.loop-v-preserved
 loop-v-preserved c =
     let l = c.loop-v in
-    (omega arith, simp length-set l.invariant.1, filled_more l.kept l.v _ _ (omega (arith, l.invariant.1, c.requires.0)) l.invariant.2 (ap (λ r. get_or c.args.all.now (r - 1) 0) c.rank-rank.ensures))
+    (simp length-set l.invariant.0, filled_more l.kept l.v _ _ (omega (arith, l.invariant.0, c.requires.0)) l.invariant.1 (ap (λ r. get_or c.args.all.now (r - 1) 0) c.rank-rank.ensures))
 
 pub returns : goal.returns
 returns c =
     let l = c.loop-v in
-    record { size = l.invariant.1; front = kept_front _ _ _ l.kept c.requires.0 l.invariant.1 (λ i h. l.invariant.2 i (omega arith)) }
+    record { size = l.invariant.0; front = kept_front _ _ _ l.kept c.requires.0 l.invariant.0 (λ i h. l.invariant.1 i (omega arith)) }

@@ -6,7 +6,4 @@ use Rattle.agreement.specs.Steps.Trying.{kept_rank}
 use Rattle.gathering.proofs.kept.ids.Given as goal
 
 abbrev pub invariant-loop-v : goal.invariant-loop-v
-invariant-loop-v l = (l.v ≤ l.g.k) × (length l.kept ≡ 16) × ((i : ℕ) → i < l.v → get_or l.kept i 0 ≡ get_or l.all (kept_rank l.without (i + 1) - 1) 0)
-
-abbrev pub decreases-loop-v : goal.decreases-loop-v
-decreases-loop-v l = l.g.k - l.v
+invariant-loop-v l = (length l.kept ≡ 16) × ((i : ℕ) → i < l.v → get_or l.kept i 0 ≡ get_or l.all (kept_rank l.without (i + 1) - 1) 0)

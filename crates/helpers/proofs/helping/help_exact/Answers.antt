@@ -15,12 +15,15 @@ overflow_mul-g c =
     let s = c in
     omega (arith, node_at_most s.args.g s.args.helper s.requires.other, wide_node s.args.g s.args.helper _ c.widened_in-size.ensures.0)
 
-pub sum_packets-requires : goal.sum_packets-requires
-unfolding repair_letters
-sum_packets-requires c =
+pub invariant_of-helping : goal.invariant_of-helping
+invariant_of-helping c =
     let s = c in
     let w = exact_lengths _ _ _ _ (fine _ _ c.in_ok-lengths.was c.lengths.ensures) in
-    record { table = c.all-table.ensures; helper = (s.requires, wide_packet s.args.g s.args.helper _ c.widened_in-size.ensures.0); lengths = (w.0 ∙ wide_node s.args.g s.args.helper _ c.widened_in-size.ensures.0, w.1 ∙ c.widened_in-wanted.ensures.0) }
+    record { shifts = c.all-table.ensures; nodes = s.requires; sized = wide_packet s.args.g s.args.helper _ c.widened_in-size.ensures.0; held = w.0 ∙ wide_node s.args.g s.args.helper _ c.widened_in-size.ensures.0 }
+
+pub sum_packets-requires : goal.sum_packets-requires
+unfolding repair_letters
+sum_packets-requires c = (exact_lengths _ _ _ _ (fine _ _ c.in_ok-lengths.was c.lengths.ensures)).1 ∙ c.widened_in-wanted.ensures.0
 
 pub returns-in_err-lengths : goal.returns-in_err-lengths
 unfolding help_refusal repair_letters

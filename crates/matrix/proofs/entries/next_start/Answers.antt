@@ -15,17 +15,12 @@ returns-then-row-column c =
     let s = c in
     ap (λ m. m + s.args.g.l) s.requires.start ∙ sym (start_beside s.args.g s.requires.entry.0 s.args.row s.args.column (omega arith) (omega arith) (omega arith))
 
-pub overflow_mul-result : goal.overflow_mul-result
-overflow_mul-result c =
-    let s = c in
-    omega (arith, start_at_most s.args.g s.requires.entry.0 (s.args.row + 1) s.args.column (omega arith) (omega arith) (omega arith) (omega arith), start_below s.args.g s.requires.entry.0 s.args.row s.args.column (omega arith) (omega arith) (omega arith), ap (λ m. m * s.args.g.l) c.lesser.ensures)
-
 pub overflow_add-result-2 : goal.overflow_add-result-2
 overflow_add-result-2 c =
     let s = c in
-    omega (arith, start_at_most s.args.g s.requires.entry.0 (s.args.row + 1) s.args.column (omega arith) (omega arith) (omega arith) (omega arith), start_below s.args.g s.requires.entry.0 s.args.row s.args.column (omega arith) (omega arith) (omega arith), ap (λ m. m * s.args.g.l) c.lesser.ensures)
+    omega (arith, start_at_most s.args.g s.requires.entry.0 (s.args.row + 1) s.args.column (omega arith) (omega arith) (omega arith) (omega arith), start_below s.args.g s.requires.entry.0 s.args.row s.args.column (omega arith) (omega arith) (omega arith), ap (λ m. m * s.args.g.l) c.min.ensures)
 
 pub returns : goal.returns
 returns c =
     let s = c in
-    ap₂ (λ m w. m + w * s.args.g.l) s.requires.start c.lesser.ensures ∙ sym (start_below s.args.g s.requires.entry.0 s.args.row s.args.column (omega arith) (omega arith) (omega arith))
+    ap₂ (λ m w. m + w * s.args.g.l) s.requires.start c.min.ensures ∙ sym (start_below s.args.g s.requires.entry.0 s.args.row s.args.column (omega arith) (omega arith) (omega arith))

@@ -6,30 +6,10 @@ use native.Mathlib.Nat.{mul-le-mul}
 use Rattle.matrix.proofs.Columns.{before_low, before_high}
 use Rattle.matrix.proofs.entries.sequences_before.Goals as goal
 
-pub overflow_mul-result : goal.overflow_mul-result
-overflow_mul-result c =
-    let a = c.args in
-    omega (arith, mul-le-mul {n₁ = a.column} {m₁ = a.column - 1} {n₂ = 16} {m₂ = 16} (omega arith) (omega arith))
-
 pub returns-then-column-k : goal.returns-then-column-k
 returns-then-column-k c =
     let a = c.args in
     (sym (before_low a.k a.column (omega arith)), omega (arith, mul-le-mul {n₁ = a.column} {m₁ = a.column - 1} {n₂ = 16} {m₂ = 16} (omega arith) (omega arith)))
-
-pub overflow_mul-result-2 : goal.overflow_mul-result-2
-overflow_mul-result-2 c =
-    let a = c.args in
-    omega (arith, mul-le-mul {n₁ = a.k} {m₁ = a.k + 1} {n₂ = 15} {m₂ = 16} (omega arith) (omega arith))
-
-pub overflow_mul-result-3 : goal.overflow_mul-result-3
-overflow_mul-result-3 c =
-    let a = c.args in
-    omega (arith, mul-le-mul {n₁ = a.column - a.k - 1} {m₁ = a.k} {n₂ = 16} {m₂ = 15} (omega arith) (omega arith))
-
-pub overflow_add-result-2 : goal.overflow_add-result-2
-overflow_add-result-2 c =
-    let a = c.args in
-    omega (arith, mul-le-mul {n₁ = a.k} {m₁ = a.k + 1} {n₂ = 15} {m₂ = 16} (omega arith) (omega arith), mul-le-mul {n₁ = a.column - a.k - 1} {m₁ = a.k} {n₂ = 16} {m₂ = 15} (omega arith) (omega arith))
 
 pub returns : goal.returns
 returns c =

@@ -5,8 +5,8 @@ use Rattle.nodes.specs.Calls.{encode_refusal}
 use Rattle.group.proofs.Called.{call_refused}
 use Rattle.nodes.proofs.encoding.encode.Goals as goal
 
-pub encode_exact-requires : goal.encode_exact-requires
-encode_exact-requires c = node_of _ _ (fine _ _ c.in_ok-node.was c.node.ensures)
+pub invariant_of-encode_exact : goal.invariant_of-encode_exact
+invariant_of-encode_exact c = record { of = node_of _ _ (fine _ _ c.in_ok-node.was c.node.ensures) }
 
 pub returns-in_err-node : goal.returns-in_err-node
 unfolding encode_refusal

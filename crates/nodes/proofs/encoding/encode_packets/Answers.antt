@@ -10,5 +10,5 @@ overflow_sub-widest c = omega arith
 
 pub overflow_add-widest : goal.overflow_add-widest
 overflow_add-widest c =
-    let s = c in
-    omega (arith, node_at_most s.args.g s.args.node s.requires.node.0, packet_fits s.args.g s.args.node s.requires.node.0 1 (omega arith) (omega arith), s.requires.node.1)
+    let e = c.args.encoding.now in
+    omega (arith, node_at_most e.g e.node e.known, packet_fits e.g e.node e.known 1 (omega arith) (omega arith))

@@ -1,16 +1,24 @@
 -- `reporting::standing` meets its contract.
-use mathlib.Core.Path.{sym}
-use Rattle.odd_report.proofs.Standings.{by_several, by_none, by_odd, by_other}
+use native.Mathlib.Omega.{arith}
+use mathlib.Core.Path.{◌≡◌, sym}
+use Rattle.sequences.specs.Lists.{ranked}
+use Rattle.odd_report.proofs.Standings.{after_nobody, after_one, after_another, after_several}
 use Rattle.odd_report.proofs.reporting.standing.Goals as goal
 
-pub returns-then-wrong-ge2 : goal.returns-then-wrong-ge2
-returns-then-wrong-ge2 c = sym (by_several _ _ _ _ c.if-wrong-ge2.true)
-
-pub returns-then-wrong-eq0 : goal.returns-then-wrong-eq0
-returns-then-wrong-eq0 c = sym (by_none _ _ _ _ c.if-wrong-eq0.true)
+pub returns-in-Nobody : goal.returns-in-Nobody
+returns-in-Nobody c = sym (after_nobody _ _ _ c.in-Nobody.is)
 
 pub returns-then-node-odd : goal.returns-then-node-odd
-returns-then-node-odd c = sym (by_odd _ _ _ _ c.if-wrong-ge2.false c.if-wrong-eq0.false c.if-node-odd.true)
+unfolding ranked
+returns-then-node-odd c =
+    let same : c.args.node ≡ ranked c.args.ids.now c.in-One.wrong.rank = omega arith in
+    sym (after_one _ _ _ _ c.in-One.is same)
 
-pub returns : goal.returns
-returns c = sym (by_other _ _ _ _ c.if-wrong-ge2.false c.if-wrong-eq0.false c.if-node-odd.false)
+pub returns-else-node-odd : goal.returns-else-node-odd
+unfolding ranked
+returns-else-node-odd c =
+    let other : c.args.node ≡ ranked c.args.ids.now c.in-One.wrong.rank → ⊥ = λ e. omega arith in
+    sym (after_another _ _ _ _ c.in-One.is other)
+
+pub returns-in-Several : goal.returns-in-Several
+returns-in-Several c = sym (after_several _ _ _ c.in-Several.is)

@@ -1,6 +1,6 @@
 -- `laying::add_sequences` meets its contract: after u turns the first u sequences are in the sum, `end` is where the next one starts, and `shift` how far it is moved.
 use mathlib.Core.Path.{◌≡◌, sym, ap, subst, ◌∙◌}
-use Prim.Native.Nat.{◌+◌, ◌-◌}
+use Prim.Native.Nat.{◌+◌}
 use native.Mathlib.Nat.{zero-mul, mul-zero}
 use native.Mathlib.Omega.{arith}
 use lib.ListN.{length-take}
@@ -20,7 +20,7 @@ unfolding preview_shift
 loop-u-init c =
     let s = c in
     let cleared = c.clear.ensures in
-    (omega arith, cleared.same_length ∙ s.requires.lengths.1, sym (mul-zero s.args.node), sym (zero-mul s.args.g.l), summed_none 0 _ _ _ cleared.zeros)
+    (cleared.same_length ∙ s.requires.lengths.1, sym (mul-zero s.args.node), sym (zero-mul s.args.g.l), summed_none 0 _ _ _ cleared.zeros)
 
 pub overflow_add-end : goal.overflow_add-end
 overflow_add-end c =
@@ -50,20 +50,19 @@ loop-u-preserved c =
     let s = c in
     let l = c.loop-u in
     let seen = seen_whole _ _ _ _ c.add_run.ensures.letters in (
-      omega arith,
-      seen.same_length ∙ l.invariant.1,
-      ap (λ m. m + s.args.node) l.invariant.2 ∙ next_shift s.args.node l.u,
-      ap (λ m. m + s.args.g.l) l.invariant.3 ∙ next_start s.args.g.l l.u,
-      one_more s.args.g s.args.node s.requires.node s.args.file.now s.requires.lengths.0 l.u l.end l.shift _ _ (omega arith) l.invariant.3 l.invariant.2 l.invariant.4 seen,
+      seen.same_length ∙ l.invariant.0,
+      ap (λ m. m + s.args.node) l.invariant.1 ∙ next_shift s.args.node l.u,
+      ap (λ m. m + s.args.g.l) l.invariant.2 ∙ next_start s.args.g.l l.u,
+      one_more s.args.g s.args.node s.requires.node s.args.file.now s.requires.lengths.0 l.u l.end l.shift _ _ (omega arith) l.invariant.2 l.invariant.1 l.invariant.3 seen,
     )
 
 pub shape_of-packet : goal.shape_of-packet
-shape_of-packet c = c.loop-u.invariant.1 ∙ sym c.requires.lengths.1
+shape_of-packet c = c.loop-u.invariant.0 ∙ sym c.requires.lengths.1
 
 pub returns : goal.returns
 returns c =
     let s = c in
     let l = c.loop-u in
     let done : l.u ≡ s.args.g.k = omega arith in
-    summed_packet s.args.g s.args.node s.requires.node s.args.file.now s.requires.lengths.0 l.packet l.invariant.1
-    (subst (λ m. Summed m 0 (preview_shift s.args.node) (sequence 0 s.args.file.now s.args.g.l) l.packet) done l.invariant.4)
+    summed_packet s.args.g s.args.node s.requires.node s.args.file.now s.requires.lengths.0 l.packet l.invariant.0
+    (subst (λ m. Summed m 0 (preview_shift s.args.node) (sequence 0 s.args.file.now s.args.g.l) l.packet) done l.invariant.3)

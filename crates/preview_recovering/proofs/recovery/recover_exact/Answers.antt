@@ -18,17 +18,17 @@ returns-then-buffer-wanted c =
     let s = c in
     preview_recover_refused _ _ _ _ (sym (simp (s.requires.fine, ne_eqb _ _ (λ e. c.if-buffer-wanted.true (e ∙ sym c.file-wanted.ensures)))))
 
-pub preview_rows-rows-requires : goal.preview_rows-rows-requires
-preview_rows-rows-requires c = preview_known _ _ c.requires.readers
+pub of-rows-requires : goal.of-rows-requires
+of-rows-requires c = preview_known _ _ c.requires.readers
 
 pub solve_counted-requires : goal.solve_counted-requires
 unfolding preview_file
 solve_counted-requires c =
-    let s = c in record { system = solvable _ _ _ c.preview_rows-rows.ensures _ (preview_ranks _ _ s.requires.readers) _ (omega arith) (omega arith) _ (omega arith) (omega arith); letters = c.if-buffer-wanted.false ∙ c.file-wanted.ensures }
+    let s = c in record { system = solvable _ _ _ c.of-rows.ensures _ (preview_ranks _ _ s.requires.readers) _ (omega arith) (omega arith) _ (omega arith) (omega arith); letters = c.if-buffer-wanted.false ∙ c.file-wanted.ensures }
 
 pub returns : goal.returns
 unfolding preview_recover_refusal
 returns c =
     let s = c in
     let long = c.if-buffer-wanted.false ∙ c.file-wanted.ensures in
-    preview_recover_fine _ _ _ _ _ _ s.requires long (simp (s.requires.fine, eq-eqb _ _ long)) c.preview_rows-rows.ensures c.solve_counted.ensures
+    preview_recover_fine _ _ _ _ _ _ s.requires long (simp (s.requires.fine, eq-eqb _ _ long)) c.of-rows.ensures c.solve_counted.ensures

@@ -1,10 +1,6 @@
--- `numbers::number_in` meets its contract: from the highest byte down, each turn puts one byte more in front.
-use mathlib.Core.Path.{◌≡◌, refl, sym, ap₂, ◌∙◌}
-use mathlib.Core.List.{List}
-use Prim.Native.Nat.{ℕ, suc, ◌+◌, ◌-◌, ◌*◌, ◌^◌, ◌≤◌, ◌<◌}
-use native.Mathlib.Nat.{pow-succ', pow-le-pow_right}
-use native.Mathlib.Omega.{arith}
-use lib.ListN.{get_or}
+-- From the highest byte down, each turn puts one byte more in front.
+use Rattle.std.proofs.Common.{◌≡◌, ℕ, suc, List, ◌+◌, ◌-◌, ◌*◌, ◌^◌, ◌≤◌, ◌<◌, sym, ap₂, ◌∙◌, arith, get_or}
+use Rattle.std.proofs.Math.Nat.{pow-succ', pow-le-pow_right}
 use Rattle.records.specs.Records.{number_in}
 use Rattle.records.proofs.NumberBytes.{number_more}
 use Rattle.records.proofs.numbers.number_in.Goals as goal
@@ -28,54 +24,17 @@ wider size i x byte some le h b =
     let s : size - (i - 1) ≡ suc (size - i) = omega arith in
     rw s (omega (arith, pow-succ' 256 (size - i)))
 
--- no byte, and all
-none : (share : List ℕ) (size start : ℕ) → (0 ≡ number_in (size - size) (start + size) share) × (0 < 256 ^ (size - size))
-none share size start = let e : size - size ≡ 0 = omega arith in rw e (refl, omega arith)
-
-all :
-    (share : List ℕ) (size start i x : ℕ) → i ≡ 0 → x ≡ number_in (size - i) (start + i) share → x < 256 ^ (size - i)
-    → (x ≡ number_in size start share) × (x < 256 ^ size)
-all share size start i x z e h =
-    let s : size - i ≡ size = omega arith in
-    let a : start + i ≡ start = omega arith in
-    (e ∙ ap₂ (λ m n. number_in m n share) s a, rw s at h)
-
-pub loop-i-init : goal.loop-i-init
-loop-i-init c =
-    let s = c.args in (omega arith, (none s.share.now s.size s.start).0, (none s.share.now s.size s.start).1)
-
-pub overflow_sub-i : goal.overflow_sub-i
-overflow_sub-i c = omega arith
-
-pub overflow_add-start : goal.overflow_add-start
-overflow_add-start c = omega arith
-
 pub overflow_mul-x : goal.overflow_mul-x
-overflow_mul-x c =
-    let l = c in
-    let a = l.args in
-    omega (arith, bound a.size l.loop-i.i l.loop-i.x (omega arith) (omega arith) l.loop-i.invariant.0 l.loop-i.invariant.2)
+overflow_mul-x c = omega (arith, bound c.args.size c.loop-i.i c.loop-i.x (omega arith) (omega arith) (omega arith) c.loop-i.invariant.2)
 
 pub overflow_add-x : goal.overflow_add-x
-overflow_add-x c =
-    let l = c in
-    let a = l.args in
-    omega (arith, c.byte_at.ensures, bound a.size l.loop-i.i l.loop-i.x (omega arith) (omega arith) l.loop-i.invariant.0 l.loop-i.invariant.2)
-
-pub loop-i-smaller : goal.loop-i-smaller
-loop-i-smaller c = omega arith
+overflow_add-x c = omega (arith, bound c.args.size c.loop-i.i c.loop-i.x (omega arith) (omega arith) (omega arith) c.loop-i.invariant.2)
 
 pub loop-i-preserved : goal.loop-i-preserved
 loop-i-preserved c =
-    let l = c in
-    let a = l.args in (
+    let a = c.args in
+    let l = c.loop-i in (
       omega arith,
-      more a.share.now a.start a.size l.loop-i.i l.loop-i.x c.byte_at.result (omega arith) l.loop-i.invariant.0 l.loop-i.invariant.1 c.byte_at.ensures.0,
-      wider a.size l.loop-i.i l.loop-i.x c.byte_at.result (omega arith) l.loop-i.invariant.0 l.loop-i.invariant.2 c.byte_at.ensures.1,
+      more a.share.now a.start a.size l.i l.x _ (omega arith) l.invariant.0 l.invariant.1 c.byte_at.ensures.0,
+      wider a.size l.i l.x _ (omega arith) l.invariant.0 l.invariant.2 c.byte_at.ensures.1,
     )
-
-pub returns : goal.returns
-returns c =
-    let l = c in
-    let a = l.args in
-    all a.share.now a.size a.start l.loop-i.i l.loop-i.x (omega arith) l.loop-i.invariant.1 l.loop-i.invariant.2

@@ -1,24 +1,9 @@
--- `sizes::end_byte` meets its contract: each offset has its byte, and what has no arm has none.
-use mathlib.Core.Path.{sym}
-use Rattle.records.proofs.Places.{past_end}
+-- The bytes after the kind are those of T.
+use Rattle.std.proofs.Common.{◌∙◌, sym, ap, arith, get_or}
+use Rattle.records.specs.Records.{end_record}
+use Rattle.records.proofs.Places.{one_past}
 use Rattle.records.proofs.sizes.end_byte.Goals as goal
 
-pub returns-in-0 : goal.returns-in-0
-returns-in-0 c = rw c.in-0.is
-
-pub returns-in-1 : goal.returns-in-1
-returns-in-1 c = rw c.in-1.is c.low.ensures
-
-pub returns-in-2 : goal.returns-in-2
-returns-in-2 c = rw c.in-2.is c.low-in-2.ensures
-
-pub returns-in-3 : goal.returns-in-3
-returns-in-3 c = rw c.in-3.is c.low-in-3.ensures
-
-pub returns-in-4 : goal.returns-in-4
-returns-in-4 c = rw c.in-4.is c.low-in-4.ensures
-
-pub returns-in_default : goal.returns-in_default
-returns-in_default c =
-    let r = c.in_default.in_default-own.rest in
-    sym (past_end _ _ r.0.0.0.0.1 r.0.0.0.1 r.0.0.1 r.0.1 r.1)
+pub returns-in-1-to-4 : goal.returns-in-1-to-4
+returns-in-1-to-4 c =
+    c.byte_of.ensures 4 (omega arith) ∙ sym (ap (λ offset. get_or (end_record c.args.letters) offset 0) (one_past c.args.offset (λ e. omega arith)))

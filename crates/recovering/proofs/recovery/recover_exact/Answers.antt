@@ -13,15 +13,15 @@ returns-then-buffer-wanted c =
     let s = c in
     recover_refused _ _ _ _ (sym (simp (s.requires.fine, ne_eqb _ _ (λ e. c.if-buffer-wanted.true (e ∙ sym c.file-wanted.ensures)))))
 
-pub shift_rows-rows-requires : goal.shift_rows-rows-requires
-shift_rows-rows-requires c =
+pub of-rows-requires : goal.of-rows-requires
+of-rows-requires c =
     let s = c in
     known _ _ _ s.requires.chosen (omega arith)
 
 pub recover_columns-requires : goal.recover_columns-requires
 recover_columns-requires c =
     let s = c in
-    (record { chosen = s.requires.chosen; long = c.if-buffer-wanted.false ∙ c.file-wanted.ensures }, c.shift_rows-rows.ensures)
+    (record { chosen = s.requires.chosen; long = c.if-buffer-wanted.false ∙ c.file-wanted.ensures }, c.of-rows.ensures)
 
 pub returns : goal.returns
 unfolding recover_refusal

@@ -5,7 +5,4 @@ use lib.ListN.{length, get_or}
 use Rattle.rounds.proofs.tables.starts.Given as goal
 
 abbrev pub invariant-loop-b : goal.invariant-loop-b
-invariant-loop-b l = (l.below ≤ l.hi → l.b ≤ l.hi) × (l.below ≤ l.b) × (length l.starts ≡ 16) × ((i : ℕ) → i < l.b → l.below ≤ i → get_or l.starts i 0 ≡ i * l.n + (l.done - get_or l.delays i 0))
-
-abbrev pub decreases-loop-b : goal.decreases-loop-b
-decreases-loop-b l = l.hi - l.b
+invariant-loop-b l = (length l.starts ≡ 16) × ((i : ℕ) → i < l.b → l.below ≤ i → get_or l.starts i 0 ≡ i * l.n + (l.done - get_or l.delays i 0))

@@ -4,8 +4,8 @@ use Rattle.group.proofs.Refusals.{handed_on, fine, passed_on, refuses}
 use Rattle.sending.specs.Calls.{piece_refusal}
 use Rattle.sending.proofs.pieces.piece_start.Goals as goal
 
-pub start_of_node-requires : goal.start_of_node-requires
-start_of_node-requires c = node_of _ _ (fine _ _ c.in_ok-node.was c.node.ensures)
+pub invariant_of-start_of_node : goal.invariant_of-start_of_node
+invariant_of-start_of_node c = record { of = node_of _ _ (fine _ _ c.in_ok-node.was c.node.ensures) }
 
 pub returns-in_err-node : goal.returns-in_err-node
 unfolding piece_refusal

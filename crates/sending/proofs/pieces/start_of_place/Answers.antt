@@ -15,16 +15,16 @@ pub returns-then-held-wanted : goal.returns-then-held-wanted
 unfolding piece_refusal
 returns-then-held-wanted c =
     let s = c in
-    refuses _ _ _ (sym (simp (of_node _ _ s.requires.0, of_place _ _ _ s.requires.1, ne_eqb _ _ (λ e. c.if-held-wanted.true (e ∙ sym c.node-wanted.ensures)))))
+    refuses _ _ _ (sym (simp (of_node _ _ s.args.of.of, of_place _ _ _ s.requires, ne_eqb _ _ (λ e. c.if-held-wanted.true (e ∙ sym c.letters-wanted.ensures)))))
 
 pub overflow_add-result : goal.overflow_add-result
 overflow_add-result c =
     let s = c in
-    omega (arith, c.packet_start-start.ensures, c.shift.ensures, at_most s.args.node s.args.rank (omega arith) (omega arith), at_most s.args.node s.args.column (omega arith) (omega arith), node_at_most s.args.g s.args.node s.requires.0, packet_fits s.args.g s.args.node s.requires.0 s.args.column (omega arith) (omega arith))
+    omega (arith, c.packet_start-start.ensures, c.shift.ensures, at_most s.args.of.node s.args.rank (omega arith) (omega arith), at_most s.args.of.node s.args.column (omega arith) (omega arith), node_at_most s.args.of.g s.args.of.node s.args.of.of, packet_fits s.args.of.g s.args.of.node s.args.of.of s.args.column (omega arith) (omega arith))
 
 pub returns : goal.returns
 unfolding piece_refusal
 returns c =
     let s = c in
-    gives _ _ _ (simp (of_node _ _ s.requires.0, of_place _ _ _ s.requires.1, eq-eqb _ _ (c.if-held-wanted.false ∙ c.node-wanted.ensures)))
+    gives _ _ _ (simp (of_node _ _ s.args.of.of, of_place _ _ _ s.requires, eq-eqb _ _ (c.if-held-wanted.false ∙ c.letters-wanted.ensures)))
     (ap₂ ◌+◌ c.packet_start-start.ensures c.shift.ensures)

@@ -1,57 +1,28 @@
--- `sources::block` meets its contract: after every turn one run more is in the block.
-use native.Mathlib.Omega.{arith}
-use mathlib.Core.Path.{◌≡◌, sym}
-use Prim.Native.Nat.{◌-◌}
-use borrow.Author.Rules.{rules}
+-- After every turn one run more is in the block.
+use Rattle.std.proofs.Common.{◌≡◌, ℕ, List, ◌+◌, ◌-◌, ◌<◌, ap, ◌∙◌, arith, rules, length, get_or, take, drop}
+use Rattle.std.proofs.Math.Seq.{get_or-take, get_or-drop}
 use Rattle.sums.proofs.Sums.{fits_at, block_first, block_more}
 use Rattle.sums.proofs.sources.block.Goals as goal
 
-pub bounds-starts-0 : goal.bounds-starts-0
-bounds-starts-0 c = omega arith
+-- an element of the list behind its first
+behind : (starts : List ℕ) (i : ℕ) → i < length starts - 1 → get_or (take (length starts - 1) (drop 1 starts)) i 0 ≡ get_or starts (i + 1) 0
+behind starts i h = get_or-take _ _ i 0 h ∙ get_or-drop 1 starts i 0 ∙ ap (λ k. get_or starts k 0) (omega arith)
 
-pub overflow_add-starts : goal.overflow_add-starts
-overflow_add-starts c =
-    let s = c in
-    omega (arith, fits_at _ _ _ _ s.requires 0 s.requires.some)
+pub loop-start-init : goal.loop-start-init
+loop-start-init c = block_first _ _ _ _ (search rules) c.taken-block.ensures
 
-pub taken-block-requires : goal.taken-block-requires
-taken-block-requires c = (omega arith, omega (arith, fits_at _ _ _ _ c.requires 0 c.requires.some))
-
-pub loop-u-init : goal.loop-u-init
-loop-u-init c = (omega arith, omega arith, block_first _ _ _ _ (search rules) c.taken-block.ensures)
-
-pub slice_bounds-add_letters-end : goal.slice_bounds-add_letters-end
-slice_bounds-add_letters-end c = sym c.loop-u.invariant.2.long
-
-pub offset_bounds-starts-u : goal.offset_bounds-starts-u
-offset_bounds-starts-u c = omega arith
-
-pub bounds-starts-u : goal.bounds-starts-u
-bounds-starts-u c = omega arith
-
-pub overflow_add-starts-in-loop-u : goal.overflow_add-starts-in-loop-u
-overflow_add-starts-in-loop-u c =
-    let s = c in
-    omega (arith, fits_at _ _ _ _ s.requires c.loop-u.u (omega arith))
+pub overflow_add-start : goal.overflow_add-start
+overflow_add-start c =
+    let i = c.loop-start.start-index in
+    omega (arith, behind c.args.starts.now i (omega arith), fits_at _ _ _ _ c.requires (i + 1) (omega arith))
 
 pub add_letters-requires : goal.add_letters-requires
 add_letters-requires c =
-    let s = c in
-    (omega (arith, fits_at _ _ _ _ s.requires c.loop-u.u (omega arith)), omega (arith, c.loop-u.invariant.2.long))
+    let i = c.loop-start.start-index in
+    (omega (arith, behind c.args.starts.now i (omega arith), fits_at _ _ _ _ c.requires (i + 1) (omega arith)), omega (arith, c.loop-start.invariant.long))
 
-pub overflow_add-u : goal.overflow_add-u
-overflow_add-u c = omega arith
-
-pub loop-u-smaller : goal.loop-u-smaller
-loop-u-smaller c = omega arith
-
-pub loop-u-preserved : goal.loop-u-preserved
-loop-u-preserved c =
-    let l = c.loop-u in
-    (omega arith, omega arith, block_more _ _ l.u _ _ _ l.invariant.2 c.add_letters.ensures)
-
-pub returns : goal.returns
-returns c =
-    let l = c.loop-u in
-    let done : l.u ≡ c.args.sources = omega arith in
-    rw (← done) l.invariant.2
+pub loop-start-preserved : goal.loop-start-preserved
+loop-start-preserved c =
+    let i = c.loop-start.start-index in
+    let e = behind c.args.starts.now i (omega arith) in
+    block_more _ _ (i + 1) _ _ _ c.loop-start.invariant (rw e at c.add_letters.ensures)

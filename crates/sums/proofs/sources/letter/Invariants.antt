@@ -1,11 +1,7 @@
--- `sources::letter` meets its contract: after every turn one run more is in the sum.
-use mathlib.Core.Path.{◌≡◌}
-use Prim.Native.Nat.{◌-◌, ◌≤◌}
+-- After every turn one run more is in the sum.
+use Rattle.std.proofs.Common.{◌≡◌}
 use Rattle.sums.specs.Sums.{sum_at}
 use Rattle.sums.proofs.sources.letter.Given as goal
 
-abbrev pub invariant-loop-u : goal.invariant-loop-u
-invariant-loop-u l = (l.u ≤ l.sources) × (l.sum ≡ sum_at l.from l.starts l.u l.at)
-
-abbrev pub decreases-loop-u : goal.decreases-loop-u
-decreases-loop-u l = l.sources - l.u
+abbrev pub invariant-loop-start : goal.invariant-loop-start
+invariant-loop-start l = l.sum ≡ sum_at l.from l.starts l.start-index l.at

@@ -3,7 +3,7 @@ use Rattle.trying.proofs.Attempts.{kept_collected, tried_file}
 use Rattle.trying.proofs.search.attempt.Goals as goal
 
 pub recover-requires : goal.recover-requires
-recover-requires c = kept_collected c.args.g c.args.ids.now c.args.packets.now c.args.without c.requires.present.0 _ _ c.collect.ensures c.ids-chosen.ensures
+recover-requires c = kept_collected c.args.nodes.now.g c.args.nodes.now.ids.now c.args.nodes.now.packets.now c.args.without c.args.nodes.now.present _ _ c.collect.ensures c.ids-chosen.ensures
 
 pub returns : goal.returns
-returns c = (c.compare_all.ensures.0, tried_file c.args.g c.args.ids.now c.args.packets.now c.args.without c.requires.present.0 _ _ c.collect.ensures c.ids-chosen.ensures _ c.recover.ensures, c.compare_all.ensures.1)
+returns c = (c.compare_all.ensures.0, tried_file c.args.nodes.now.g c.args.nodes.now.ids.now c.args.nodes.now.packets.now c.args.without c.args.nodes.now.present _ _ c.collect.ensures c.ids-chosen.ensures _ c.recover.ensures, c.compare_all.ensures.1)

@@ -8,7 +8,4 @@ use Rattle.trying.proofs.Searching.{AllFailed}
 use Rattle.trying.proofs.search.search.Given as goal
 
 abbrev pub invariant-loop-without : goal.invariant-loop-without
-invariant-loop-without l = (l.without ≤ l.g.k + 1) × (l.found.wrong ≡ 2) × (length l.file ≡ file_letters l.g) × ((here : Present l.g l.ids l.packets) → AllFailed l.g l.ids l.packets here l.without)
-
-abbrev pub decreases-loop-without : goal.decreases-loop-without
-decreases-loop-without l = l.without
+invariant-loop-without l = (length l.file ≡ file_letters l.nodes.g) × ((here : Present l.nodes.g l.nodes.ids.now l.nodes.packets.now) → AllFailed l.nodes.g l.nodes.ids.now l.nodes.packets.now here l.without)

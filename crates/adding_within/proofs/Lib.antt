@@ -1,2 +1,0 @@
--- Runs of one buffer that don't touch each other.
-mod Apart

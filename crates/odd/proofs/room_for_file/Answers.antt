@@ -1,8 +1,0 @@
--- `room_for_file` meets its contract: as many zeros as it says.
-use mathlib.Core.Path.{sym}
-use Prim.Native.Nat.{ℕ}
-use lib.ListN.{length-replicate}
-use Rattle.odd.proofs.room_for_file.Goals as goal
-
-pub returns : goal.returns
-returns c = sym (length-replicate {A = ℕ} 2457600 0)
