@@ -8,8 +8,7 @@ use script_line::Line;
 
 // 37: the byte as the next one; 38: the byte at an index of A's slice, all of which comes in bursts of a size; 39: the number as a word of the state.
 fn tried(line: Line, state: Arriving, from: &mut [u8], byte: u8) -> Arriving {
-    let operation = line.operation;
-    match operation {
+    match line.operation {
         37 => state.after(&[byte]),
         38 => bursts::with_byte(from, line.own, byte, line.group.k),
         _ => arriving_words::with(state, line.own, usize::from(byte)),

@@ -1,8 +1,9 @@
 // The call of a line.
 use group::Group;
 
-// What is called.
-enum Call {
+// What a line is about.
+#[derive(Clone, Copy)]
+enum Task {
     Encode,
     Help,
     Recover,
@@ -12,26 +13,26 @@ enum Call {
 }
 
 // The first letter of the line's first word tells it.
-fn call_of(line: &[u8]) -> Call {
+fn task_of(line: &[u8]) -> Task {
     match lines::byte(line, 3) {
-        b'f' => Call::Encode,
-        b'h' => Call::Help,
-        b'n' => Call::Recover,
-        b'l' => Call::Repair,
-        b'p' => Call::Write,
-        _ => Call::Judge,
+        b'f' => Task::Encode,
+        b'h' => Task::Help,
+        b'n' => Task::Recover,
+        b'l' => Task::Repair,
+        b'p' => Task::Write,
+        _ => Task::Judge,
     }
 }
 
 // What comes out of a line's call, with its two ids: a count, or a refusal's number. The lost node is node 2, and the batch is 7.
 fn called(line: &[u8], g: Group, a: usize, b: usize, from: &[u8], made: &mut [u8]) -> usize {
-    lines::outcome(match call_of(line) {
-        Call::Encode => store::encoding::encode(g, a, from, made),
-        Call::Help => store::helping::help(g, 2, a, b, from, made),
-        Call::Recover => store::recovery::recover(g, &[a, b], made),
-        Call::Repair => store::repairing::repair(g, 2, &[a, b], made),
-        Call::Write => share::write(g, a, 7, from, made),
-        Call::Judge => Ok(judged_words::number(share::judge(from))),
+    lines::outcome(match task_of(line) {
+        Task::Encode => store::encoding::encode(g, a, from, made),
+        Task::Help => store::helping::help(g, 2, a, b, from, made),
+        Task::Recover => store::recovery::recover(g, &[a, b], made),
+        Task::Repair => store::repairing::repair(g, 2, &[a, b], made),
+        Task::Write => share::write(g, a, 7, from, made),
+        Task::Judge => Ok(judged_words::number(share::judge(from))),
     })
 }
 
@@ -45,8 +46,8 @@ pub fn call(line: &[u8], l: usize, memory: &[u8], made: &mut [u8]) -> usize {
 
 // The index of the first byte that can't stand, where a line judges bytes; else 0.
 pub fn place(line: &[u8], memory: &[u8]) -> usize {
-    match call_of(line) {
-        Call::Judge => judged_words::place(share::judge(marks::handed(line, memory))),
+    match task_of(line) {
+        Task::Judge => judged_words::place(share::judge(marks::handed(line, memory))),
         _ => 0,
     }
 }

@@ -16,52 +16,51 @@ fn heading(g: Group) {
     lines::say(b"\n");
 }
 
-// All of it for one group: its nodes' shares, the file from the nodes `ids`, and the lost node from its helpers.
-fn night(
-    g: Group,
-    ids: &[usize],
+// What is done in one group: its file is recovered from the nodes `ids`, and a lost node is repaired by its helpers.
+#[derive(Clone, Copy)]
+struct Night<'a> {
+    ids: &'a [usize],
     lost: usize,
-    helpers: &[usize],
-    a: &mut [u8],
-    b: &mut [u8],
-    c: &mut [u8],
-) {
+    helpers: &'a [usize],
+}
+
+// All of it for one group: a node's share, the file, and the lost node.
+fn run(g: Group, night: Night, a: &mut [u8], b: &mut [u8], c: &mut [u8]) {
     heading(g);
-    storing::store(g, lost, a, b, c);
-    collecting::recover(g, ids, a, b, c);
-    repairing::repair(g, lost, helpers, a, b, c);
+    storing::store(g, night.lost, a, b, c);
+    collecting::recover(g, night.ids, a, b, c);
+    repairing::repair(g, night.lost, night.helpers, a, b, c);
 }
 
 // The same with each of these lengths in place of the group's own.
-fn nights(
-    lengths: &[usize],
-    g: Group,
-    ids: &[usize],
-    lost: usize,
-    helpers: &[usize],
-    a: &mut [u8],
-    b: &mut [u8],
-    c: &mut [u8],
-) {
+fn run_all(lengths: &[usize], g: Group, night: Night, a: &mut [u8], b: &mut [u8], c: &mut [u8]) {
     for l in lengths {
-        let longer = group::of(g.n, g.k, g.d, *l);
-        night(longer, ids, lost, helpers, a, b, c);
+        run(group::of(g.n, g.k, g.d, *l), night, a, b, c);
     }
 }
 
 // [3,2,2] from the nodes 3 and 1: its file has three sequences, and at the longest L each memory has just room for what it has to hold.
 fn three_nodes(lengths: &[usize], a: &mut [u8], b: &mut [u8], c: &mut [u8]) {
-    nights(lengths, group::of(3, 2, 2, 0), &[3, 1], 2, &[3, 1], a, b, c);
+    let night = Night {
+        ids: &[3, 1],
+        lost: 2,
+        helpers: &[3, 1],
+    };
+    run_all(lengths, group::of(3, 2, 2, 0), night, a, b, c);
 }
 
 // [5,3,4], whose pieces of ranks 2 and 3 wait for the others.
 fn five_nodes(lengths: &[usize], a: &mut [u8], b: &mut [u8], c: &mut [u8]) {
-    let g = group::of(5, 3, 4, 0);
-    nights(lengths, g, &[5, 3, 2], 4, &[5, 3, 2, 1], a, b, c);
+    let night = Night {
+        ids: &[5, 3, 2],
+        lost: 4,
+        helpers: &[5, 3, 2, 1],
+    };
+    run_all(lengths, group::of(5, 3, 4, 0), night, a, b, c);
 }
 
-// A holds a file, a share or the collector's buffer, B a node's packets, and C pieces: there is room for three of the longest sequences, and for two; both
-// with some letters more.
+// A holds a file, a share or the collector's buffer, B a node's packets, and C pieces. They stay three parameters: the borrow checker doesn't follow a struct
+// of `&mut` slices of which one is lent while another is read. There is room for three of the longest sequences in A, and for two in B and C; in each with some letters more.
 fn main() {
     let mut a = lines::room::<3145792>();
     let mut b = lines::room::<2097216>();

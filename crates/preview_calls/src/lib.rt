@@ -15,8 +15,7 @@ fn piece(g: Group, node: usize, rank: usize, from: &[u8], into: &mut [u8]) -> Re
 // 41 encode, 42 piece, 43 recover; 44 and 45 lengths, 46 where a piece goes. The numbers are the scripts' own: so they are matched as they come.
 fn of_previews(line: Line, ids: &[usize], from: &[u8], into: &mut [u8]) -> Result<usize, Refusal> {
     let g = line.group;
-    let operation = line.operation;
-    match operation {
+    match line.operation {
         41 => preview::encoding::encode(g, line.first, from, into),
         42 => piece(g, line.first, line.second, from, into),
         43 => preview::recovery::recover(g, ids, into),

@@ -37,8 +37,7 @@ fn stored(line: Line, from: &[u8], into: &mut [u8]) -> Result<usize, Refusal> {
 // The calls on shares themselves: 23 judges, 24 reads, 25 judges what is in B with every byte at an index, and 26 tells how many bytes can stand. The others
 // are those above.
 pub fn of_shares(line: Line, from: &[u8], into: &mut [u8]) {
-    let operation = line.operation;
-    match operation {
+    match line.operation {
         23 => judgment(share::judge(from)),
         24 => judgment(share::read(from, into)),
         25 => sweep::every_byte(into, line.own),
