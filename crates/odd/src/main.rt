@@ -3,30 +3,12 @@
 // first all are looked at, and then their letters go where the library's call wants them.
 #![tactic(auto)]
 
-use heads::Head;
-use odd_files::table::Table;
 use odd_files::{input, looking};
 use odd_letters::{fitting, gathering};
 use odd_problems::Problem;
 use std::rt::{Env, Files};
 
-// Compares the shares of a batch: gathers their letters, asks the library, and tells what it finds.
-fn compare(
-    rt: &(impl Env + Files + Print),
-    head: Head,
-    files: &Table,
-    bytes: &mut [u8],
-    packets: &mut [u8],
-    file: &mut [u8],
-) -> Result<(), Problem> {
-    let mut ids = [0usize; 16];
-    let all = gathering::gather(rt, head, files, bytes, packets, &mut ids)?;
-    let room = lines::part_mut(file, 0, lengths::file_letters(head.group).unwrap_or(0));
-    let report = odd_one::find(head.group, all.ids, all.letters, room);
-    odd_words::tell(rt, head, files, &report)
-}
-
-// Looks at all files, and compares them where nothing is in the way.
+// Looks at all files, and compares them where nothing is in the way: gathers their letters, asks the library, and tells what it finds.
 fn answer(
     rt: &(impl Env + Files + Print + Eprint),
     bytes: &mut [u8],
@@ -36,12 +18,16 @@ fn answer(
     if input::arg_count(rt) < 2 {
         return Err(Problem::NoFiles);
     }
-    let mut files = Table::empty();
-    let Some(head) = looking::look_all(rt, &mut files, bytes) else {
+    let Some(batch) = looking::look_all(rt, bytes) else {
         return Ok(());
     };
-    fitting::fits(head, &files, packets.len(), file.len())?;
-    compare(rt, head, &files, bytes, packets, file)
+    fitting::fits(&batch, packets.len(), file.len())?;
+    let mut ids = [0usize; 16];
+    let all = gathering::gather(rt, &batch, bytes, packets, &mut ids)?;
+    let g = batch.group();
+    let room = lines::part_mut(file, 0, lengths::file_letters(g).unwrap_or(0));
+    let report = odd_one::find(g, all.ids, all.letters, room);
+    odd_words::tell(rt, &batch, &report)
 }
 
 // The memories together use most of a stack of 8 MiB. A batch has at least four shares here, and its file at most 5/8 of their letters: so whatever fits into

@@ -4,4 +4,3 @@
 pub mod batch;
 pub mod input;
 pub mod looking;
-pub mod table;

@@ -2,8 +2,8 @@
 ghost use Rattle.std.specs.Prelude.{◌≤◌, length, IfOk};
 
 use heads::{Head, bytes as head_bytes};
-use odd_files::table::Table;
-use odd_files::{batch, input};
+use odd_files::batch::Batch;
+use odd_files::input;
 use odd_problems::{Matter, Problem};
 use std::rt::{Env, Files};
 
@@ -56,8 +56,7 @@ fn add(
 // All nodes that have a file.
 pub fn gather<'a>(
     rt: &(impl Env + Files),
-    head: Head,
-    files: &Table,
+    batch: &Batch,
     bytes: &mut [u8],
     packets: &'a mut [u8],
     ids: &'a mut [usize; 16],
@@ -65,8 +64,8 @@ pub fn gather<'a>(
     let mut nodes = 0;
     let mut end = 0;
     for node in (1..17).rev() {
-        if let Some(nth) = files.of_node(node) {
-            end = add(rt, nth, batch::head_of(head, node), bytes, packets, end)?;
+        if let Some(nth) = batch.file_of(node) {
+            end = add(rt, nth, batch.head_of(node), bytes, packets, end)?;
             ids[nodes] = node;
             nodes += 1;
         }

@@ -1,8 +1,8 @@
 // What the library's call found, in words: a line for each file, in the order of the arguments, and the answer.
 use crate::{answers, places};
 use heads::Head;
-use odd_files::table::Table;
-use odd_files::{batch, input};
+use odd_files::batch::Batch;
+use odd_files::input;
 use odd_one::{Report, Standing};
 use odd_problems::Problem;
 use std::rt::Env;
@@ -49,11 +49,11 @@ fn tell_file(
 }
 
 // The lines of all files.
-fn tell_files(rt: &(impl Env + Print), head: Head, files: &Table, report: &Report) -> Outcome {
+fn tell_files(rt: &(impl Env + Print), batch: &Batch, report: &Report) -> Outcome {
     let mut outcome = Outcome::AllAgree;
     for nth in 1..input::arg_count(rt) {
-        if let Some(node) = files.node_in(nth) {
-            let own = batch::head_of(head, node);
+        if let Some(node) = batch.node_in(nth) {
+            let own = batch.head_of(node);
             outcome = tell_file(rt, outcome, nth, own, standing_of(report, node));
         }
     }
@@ -70,14 +70,9 @@ fn tell_outcome(rt: &impl Print, outcome: Outcome, nodes: usize) {
 }
 
 // All lines. Where the call refuses there are none.
-pub fn tell(
-    rt: &(impl Env + Print),
-    head: Head,
-    files: &Table,
-    report: &Report,
-) -> Result<(), Problem> {
+pub fn tell(rt: &(impl Env + Print), batch: &Batch, report: &Report) -> Result<(), Problem> {
     report.check?;
-    let outcome = tell_files(rt, head, files, report);
-    tell_outcome(rt, outcome, files.count());
+    let outcome = tell_files(rt, batch, report);
+    tell_outcome(rt, outcome, batch.nodes());
     Ok(())
 }
