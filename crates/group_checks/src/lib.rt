@@ -86,7 +86,12 @@ pub fn exact(length: usize, wanted: usize, refusal: Refusal) -> Result<(), Refus
 }
 
 // A lent input of exactly one length and a lent output of exactly another: refusals 5 and 6.
-pub fn lengths(input: usize, wanted_in: usize, output: usize, wanted_out: usize) -> Result<(), Refusal>
+pub fn lengths(
+    input: usize,
+    wanted_in: usize,
+    output: usize,
+    wanted_out: usize,
+) -> Result<(), Refusal>
     ensures { check_number result ≡ first (unless (eqb input wanted_in) 5) (unless (eqb output wanted_out) 6) }
 {
     if input != wanted_in {

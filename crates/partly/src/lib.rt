@@ -6,7 +6,8 @@ ghost use Rattle.kinds.specs.Kinds.{head_size};
 ghost use Rattle.heads.specs.Heads.{head_record};
 ghost use Rattle.heads.specs.Steps.Partly.{HeadFits, Blank, PartlyIn, partly_at, head_after};
 
-use heads::{Head, bytes as head_bytes, bytes::Fitting};
+use heads::bytes::Fitting;
+use heads::{Head, bytes as head_bytes};
 use records::numbers;
 
 // The most bytes that a head has: where L has four.

@@ -7,7 +7,13 @@ use script_line::Line;
 
 // A piece is put at the start of the slice that is lent, so that what is handed back is seen there; refused, it is empty. The answer is
 // its companion's.
-fn piece(g: Group, node: usize, rank: usize, from: &[u8], into: &mut [u8]) -> Result<usize, Refusal> {
+fn piece(
+    g: Group,
+    node: usize,
+    rank: usize,
+    from: &[u8],
+    into: &mut [u8],
+) -> Result<usize, Refusal> {
     lines::put(into, 0, preview::pieces::piece(g, node, rank, from));
     preview::pieces::piece_start(g, node, rank, from.len())
 }

@@ -10,7 +10,8 @@ ghost use Rattle.searching.specs.Steps.Search.{stands_at};
 ghost use Rattle.reaching.specs.Numbers.{number_at};
 ghost use Rattle.reaching.specs.Steps.Reaching.{Within, Stepped, HeadAt, CanBeWrong, Led};
 
-use heads::{Head, bytes as head_bytes, bytes::Fitting};
+use heads::bytes::Fitting;
+use heads::{Head, bytes as head_bytes};
 use records::sizes;
 
 // So many bytes can stand in a share of so many letters, with its head of this kind in. (Where a head's numbers are out of range, there are none.)

@@ -49,7 +49,12 @@ fn check_apart(lost: usize, helpers: &[usize]) -> Result<(), Refusal>
 }
 
 // The same once these are right: refusal 5, and then the solver has the whole buffer.
-fn repair_exact(g: Group, lost: usize, helpers: &[usize], buffer: &mut [u8]) -> Result<usize, Refusal>
+fn repair_exact(
+    g: Group,
+    lost: usize,
+    helpers: &[usize],
+    buffer: &mut [u8],
+) -> Result<usize, Refusal>
     requires { Helpers g lost helpers.now }
     ensures { Repaired g lost helpers.now buffer.old buffer.new result }
 {

@@ -3,6 +3,7 @@
 
 // The helpers of node 2 and the nodes of the batch, by their ranks. Ranks count from 1.
 const HELPERS: [usize; 4] = [6, 4, 3, 1];
+
 const NODES: [usize; 3] = [4, 2, 1];
 
 // The piece of a helper for the rebuilding of node 2.
@@ -16,7 +17,12 @@ fn help(rank: usize, helper: usize, disks: &[u8], piece: &mut [u8]) {
 // Node 2's packets in the buffer, of 76 letters, from the four pieces, each of 19 letters at its rank's place. The answer is the count.
 pub fn rebuild(disks: &[u8], buffer: &mut [u8]) -> usize {
     for i in 0..4 {
-        help(i + 1, HELPERS[i], disks, lines::part_mut(buffer, i * 19, 19));
+        help(
+            i + 1,
+            HELPERS[i],
+            disks,
+            lines::part_mut(buffer, i * 19, 19),
+        );
     }
     let answer = store::repairing::repair(disks::six(), 2, &HELPERS, buffer);
     lines::outcome(answer)

@@ -20,7 +20,13 @@ pub fn piece<'a>(g: Group, node: usize, rank: usize, column: usize, packets: &'a
 
 // The companion of `piece`, handed how many letters the packets have: the index at which the piece starts in them, or the refusal.
 // Refusals: 1, 2, 3 for the node, for a rank outside 1..k or a column outside rank..d, 5 for packets of another length.
-pub fn piece_start(g: Group, node: usize, rank: usize, column: usize, held: usize) -> Result<usize, Refusal>
+pub fn piece_start(
+    g: Group,
+    node: usize,
+    rank: usize,
+    column: usize,
+    held: usize,
+) -> Result<usize, Refusal>
     ensures { Starting g node rank column held result }
 {
     group_checks::node(g, node)?;

@@ -49,7 +49,13 @@ fn write_head(head: Head, letters: &[u8], share: &mut [u8]) -> Result<usize, Ref
 
 // Writes a node's packets, one after another, as its share, of the kind that serves their L. The answer is how many bytes it has. A refused
 // call leaves `share` as it was. Refusals: 1, 2, 3, 5, 6.
-pub fn write(g: Group, node: usize, batch: u32, packets: &[u8], share: &mut [u8]) -> Result<usize, Refusal>
+pub fn write(
+    g: Group,
+    node: usize,
+    batch: u32,
+    packets: &[u8],
+    share: &mut [u8],
+) -> Result<usize, Refusal>
     ensures { Written (head_for g node batch) packets.now share.old result share.new }
 {
     let head = Head {
@@ -62,7 +68,13 @@ pub fn write(g: Group, node: usize, batch: u32, packets: &[u8], share: &mut [u8]
 }
 
 // Writes a node's packet of previews as its share, in the same way. Refusals: 1, 2, 3, 5, 6.
-pub fn write_preview(g: Group, node: usize, batch: u32, packet: &[u8], share: &mut [u8]) -> Result<usize, Refusal>
+pub fn write_preview(
+    g: Group,
+    node: usize,
+    batch: u32,
+    packet: &[u8],
+    share: &mut [u8],
+) -> Result<usize, Refusal>
     ensures { Written (preview_head g node batch) packet.now share.old result share.new }
 {
     let head = Head {

@@ -8,7 +8,8 @@ ghost use Rattle.share.specs.Calls.{Writes, fit_refusal};
 
 use block_letters::writing;
 use group::Refusal;
-use heads::{Head, bytes as head_bytes, bytes::Fitting};
+use heads::bytes::Fitting;
+use heads::{Head, bytes as head_bytes};
 use records::sizes;
 
 // Writes the share of this head and these letters into a buffer of its exact length, from its front to its back.
