@@ -26,7 +26,7 @@ const LAST_BATCH: usize = 4294967295;
 pub struct Arriving {
     // How many bytes can stand so far. Once one couldn't, this is its index, and nothing is counted on.
     pub at: usize,
-    // The number of what is wrong with that byte, 8 to 12, else 0.
+    // The number of what is wrong with that byte, 8 to 12, else 0. (A number and no Option: C owns the nine numbers of a state, and `state_of` and `JudgesState` speak of any.)
     pub wrong: usize,
     // The numbers of the head, as far as their bytes are in and can stand; a byte that isn't in counts as 0.
     pub n: usize,

@@ -42,6 +42,7 @@ pub fn seen(held: &[u8], runs: &Moved, skip: usize) -> usize
     ensures { let m = runs.now in SameFor held.now (seen_letter m.from.now m.starts.now m.leads.now (length m.starts.now) m.size skip) result }
 {
     let mut at = 0;
+    // No count: what is left at the end is a shorter window, and the first that differs ends it.
     while at < held.len() {
         let end = at + ENDS.min(held.len() - at);
         let same = seen_few(&held[at..end], runs, skip + at);

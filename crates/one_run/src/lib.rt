@@ -14,7 +14,7 @@ pub fn add_earlier(part: &mut [u8], to: usize, from: usize, moved: usize, count:
     }
 }
 
-// The same where the run at index `from` starts behind the other.
+// The same where the run at index `from` starts behind the other. (Beside `add_earlier`: which of the two additions within a buffer it is tells them apart, and that is all they are.)
 pub fn add_later(part: &mut [u8], to: usize, from: usize, moved: usize, count: usize)
     requires { (to + count ≤ from) × (from + count ≤ length part.old) }
     ensures { RunAdded to from count moved part.old part.new }

@@ -31,7 +31,7 @@ pub fn length_in_range(g: Group) -> bool
     group_checks::is_between(1, LONGEST_PREVIEW, g.l)
 }
 
-// The group's own numbers: refusals 1 and 2.
+// The group's own numbers: refusals 1 and 2. (Beside `group_checks::group`: the two have the order in common and no test, so one generic function would need more lines than both.)
 pub fn group(g: Group) -> Result<(), Refusal>
     ensures { check_number result ≡ preview_group_refusal g }
 {

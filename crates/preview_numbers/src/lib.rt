@@ -10,7 +10,7 @@ ghost use Rattle.preview_numbers.specs.Previews.{preview_group_refusal, preview_
 use group::{Group, Refusal};
 use known::Member;
 
-// The letters of a file of previews, k*L. Refusals: 1, 2.
+// The letters of a file of previews, k*L. Refusals: 1, 2. (Beside `lengths::file_letters`, with other ranges and another length: two lines each.)
 pub fn file_letters(g: Group) -> Result<usize, Refusal>
     ensures { Answers result (preview_group_refusal g) (preview_file g) }
 {

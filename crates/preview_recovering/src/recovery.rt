@@ -11,6 +11,7 @@ use sequences::rows::{self, Previews};
 // The answer is how many letters that aren't zero it takes to add: the terms of document 01's solving sum whose letter isn't zero in the file that comes out.
 // Refusals: 1, 2, 3 for an id outside 1..n or another number of ids than k,
 // 4 for ids that don't fall strictly, 5 for a buffer of another length than k*L. A refused call leaves `buffer` as it was.
+// (Beside `recovering::recovery::recover`: they have the two steps in common, and what a step does is each code's own.)
 pub fn recover(g: Group, ids: &[usize], buffer: &mut [u8]) -> Result<usize, Refusal>
     ensures { PreviewRecovered g ids.now buffer.old buffer.new result }
 {

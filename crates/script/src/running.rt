@@ -16,6 +16,7 @@ pub fn run<F: FnMut(Line, &[usize; 32], &mut [u8], &mut [u8])>(
 {
     let mut found = [0; 32];
     let mut at = 0;
+    // No count: the next line begins where this one ended.
     while at < text.len() {
         let line = memory::next(parts, text, at, &mut found, a, b);
         if 10 <= line.operation {

@@ -72,6 +72,7 @@ fn first_wrong_behind(bytes: &[u8], base: usize, front: usize, head: Head, lette
     ensures { StopsFrom base head bytes.now result }
 {
     let mut at = 0;
+    // Loops left by a label, as document 01 names them; neither counts, since each goes on by what it steps over.
     'records: while at < bytes.len() {
         let start = at;
         let nth = sizes::record_at(front, base + start);

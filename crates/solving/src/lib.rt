@@ -49,6 +49,7 @@ fn solve_tiles(part: &mut [u8], system: &System, exps: &[usize])
     let mut hi = 0;
     let mut below = 0;
     let mut done = 0;
+    // No count: each tile ends where its own ranks say.
     while done < rounds {
         hi = rounds::begun(system.s, system.delays, hi, done);
         below = rounds::ended(system.n, hi, system.delays, below, done);
