@@ -44,14 +44,14 @@ pub fn tell_judged(text: &[u8], n: usize, judgment: Result<Head, Fault>) {
 // Writes a node's packets to its disk.
 pub fn write(node: usize, packets: &[u8], disks: &mut [u8]) {
     let share = lines::part_mut(disks, node % 7 * 146, bytes(node));
-    share::write(six(), node, 7, packets, share);
+    let _ = share::write(six(), node, 7, packets, share);
 }
 
 // Encodes a batch for a node, and writes that.
 fn spread_to(node: usize, file: &[u8], disks: &mut [u8]) {
     let mut packets = [0u8; 124];
     let held = lines::part_mut(&mut packets, 0, letters(node));
-    store::encoding::encode(six(), node, file, held);
+    let _ = store::encoding::encode(six(), node, file, held);
     write(node, held, disks);
 }
 
@@ -66,14 +66,14 @@ pub fn spread(file: &[u8], disks: &mut [u8]) {
 pub fn differs(node: usize, file: &[u8], packets: &[u8]) -> usize {
     let mut wanted = [0u8; 124];
     let held = lines::part_mut(&mut wanted, 0, letters(node));
-    store::encoding::encode(six(), node, file, held);
+    let _ = store::encoding::encode(six(), node, file, held);
     lines::differ(held, packets)
 }
 
 // Reads a node's packets into the first letters of `packets`. Of a disk that is lost nothing is read.
 pub fn read(node: usize, disks: &[u8], packets: &mut [u8]) {
     let share = lines::part(disks, node % 7 * 146, bytes(node));
-    share::read(share, lines::part_mut(packets, 0, letters(node)));
+    let _ = share::read(share, lines::part_mut(packets, 0, letters(node)));
 }
 
 // The disks 2 and 5 are lost: zeros are in their place.

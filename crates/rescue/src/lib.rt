@@ -11,7 +11,7 @@ fn help(rank: usize, helper: usize, disks: &[u8], piece: &mut [u8]) {
     let mut packets = [0u8; 124];
     disks::read(helper, disks, &mut packets);
     let held = lines::part(&packets, 0, disks::letters(helper));
-    store::helping::help(disks::six(), 2, helper, rank, held, piece);
+    let _ = store::helping::help(disks::six(), 2, helper, rank, held, piece);
 }
 
 // Node 2's packets in the buffer, of 76 letters, from the four pieces, each of 19 letters at its rank's place. The answer is the count.
