@@ -19,9 +19,6 @@ use Rattle.letters.specs.Steps.Rests.{left_over}
 use Rattle.dividing.specs.Running.{RunningSum}
 use Rattle.dividing.specs.Steps.Widening.{step}
 
-pub nothing_summed : (xs : List ℕ) (a b w : ℕ) → b ≤ a → RunningSum xs xs a b w
-nothing_summed xs a b w order = record { same_length = refl; before = λ p h. refl; summed = λ p lo hi. absurd (omega arith); after = λ p h. refl }
-
 -- up to the same index by another name
 pub summed_until : (xs ys : List ℕ) (a b c w : ℕ) → c ≡ b → RunningSum xs ys a b w → RunningSum xs ys a c w
 summed_until xs ys a b c w e s = rw e s
@@ -69,30 +66,6 @@ summed_block xs ys to from width end w stride narrow e fits step =
 
     back : (p : ℕ) → to ≤ p → from + (p - to) ≡ p - w
     back p lo = omega arith
-
--- a letter, as a loop adds it
-pub summed_one :
-    (xs ys : List ℕ) (a b c j w : ℕ) → a ≤ b → c ≡ b + 1 → c ≤ length xs → 0 < w → w ≤ b → j ≡ b - w → RunningSum xs ys a b w
-    → RunningSum xs (set ys b (bit_xor (get_or ys b 0) (get_or ys j 0))) a c w
-summed_one xs ys a b c j w order next fits some far e s =
-    summed_then xs ys zs a b c w order (omega arith) s
-    (record {
-      same_length = length-set ys b x;
-      before = λ p h. get_or-set_other ys b p x 0 (λ same. omega arith);
-      summed =
-          λ p lo hi.
-          let here : p ≡ b = omega arith in
-          rw here
-          (get_or-set_same ys b x 0 (omega (arith, s.same_length))
-          ∙ ap (bit_xor (get_or ys b 0)) (ap (λ q. get_or ys q 0) e ∙ sym (get_or-set_other ys b (b - w) x 0 (λ same. omega arith))));
-      after = λ p h. get_or-set_other ys b p x 0 (λ same. omega arith);
-    })
-  where
-    x : ℕ
-    x = bit_xor (get_or ys b 0) (get_or ys j 0)
-
-    zs : List ℕ
-    zs = set ys b x
 
 -- 1 / (1 + D^w) is (1 + D^w) / (1 + D^2w): what sums the product at the stride 2w sums the run at the stride w
 module _

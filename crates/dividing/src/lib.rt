@@ -39,10 +39,8 @@ fn by_letters(part: &mut [u8], start: usize, count: usize, w: usize)
     requires { (1 ≤ w) × (w ≤ count) × (start + count ≤ length part.old) }
     ensures { RunningSum part.old part.new (start + w) (start + count) w }
 {
-    let mut i = w;
-    while i < count {
+    for i in w..count {
         part[start + i] ^= part[start + (i - w)];
-        i += 1;
     }
 }
 
@@ -105,9 +103,8 @@ fn sum_steps(part: &mut [u8], to: usize, from: usize, count: usize)
     requires { (left_over count step ≡ 0) × (from + step ≤ to) × (to + count ≤ length part.old) }
     ensures { RunningSum part.old part.new to (to + count) (to - from) }
 {
-    let mut i = 0;
-    while i < count {
+    for s in 0..count / STEP {
+        let i = s * STEP;
         blocks::add_block(part, to + i, from + i, STEP);
-        i += STEP;
     }
 }

@@ -42,15 +42,6 @@ pub rest_in : (n i : ℕ) → i ≡ left_over n widest_block → i % widest_bloc
 unfolding left_over
 rest_in n i e = omega arith
 
--- past what the widest blocks leave over, they leave nothing over
-pub rest_whole : (n i : ℕ) → i ≡ left_over n widest_block → left_over (n - i) widest_block ≡ 0
-unfolding left_over
-rest_whole n i e = omega arith
-
-pub whole_blocks : (n : ℕ) → left_over n widest_block ≡ 0 → n % widest_block ≡ 0
-unfolding left_over
-whole_blocks n e = e
-
 -- the widest blocks and what they leave over are all of it
 pub all_blocks : (n start : ℕ) → start ≡ left_over n widest_block → start + n / widest_block * widest_block ≡ n
 unfolding left_over

@@ -7,7 +7,7 @@ use native.Mathlib.Nat.{add_assoc, sub-zero, suc-sub-suc}
 use native.Mathlib.Numerals.{add-one}
 use native.Mathlib.Omega.{arith}
 use lib.ListN.{length, get_or, take, drop, set, length-append, length-take, length-drop, take-append-drop, get_or-eq_default, get_or-append}
-use lib.Seq.{ext_get_or, get_or-append-add, get_or-drop, length-take-le, take-suc, take-add, drop-drop}
+use lib.Seq.{ext_get_or, get_or-append-add, length-take-le, take-suc, take-add, drop-drop}
 use Rattle.letters.specs.Algebra.{Adding}
 use Rattle.letters.specs.Places.{letter}
 use Rattle.letters.specs.Runs.{xored, added}
@@ -214,17 +214,6 @@ module _ {A : Type 0} (𝓐 : Adding A) where
       ∙ ap (λ n. added 𝓐 (added 𝓐 xs at (take i run)) (at + n) (drop i run)) (sym (length-take-le i run h))
       ∙ sym (added_append xs at (take i run) (drop i run))
       ∙ ap (added 𝓐 xs at) (take-append-drop i run)
-
-  -- past the run's end all is as it was
-  pub drop_added :
-      (xs : List A) (at : ℕ) (ys : List A) (a : ℕ) → at + length ys ≤ a → drop a (added 𝓐 xs at ys) ≡ drop a xs
-  drop_added xs at ys a h =
-      ext_get_or 𝓐.none (drop a (added 𝓐 xs at ys)) (drop a xs) (simp (length-drop, length_added) refl)
-      (λ i l.
-      let l' : i < length xs - a = rw (sym (length_added xs at ys), ← length-drop) l in
-      get_or-drop a (added 𝓐 xs at ys) i 𝓐.none
-      ∙ added_after xs at ys (a + i) (omega arith) (omega arith)
-      ∙ sym (get_or-drop a xs i 𝓐.none))
 
   front_xored : (xs : List A) (n : ℕ) (ys : List A) → length ys ≤ n → xored 𝓐 (take n xs) ys ++ drop n xs ≡ xored 𝓐 xs ys
   unfolding xored

@@ -41,10 +41,6 @@ module _ (T r j byte B : ℕ) (e : B ≡ blocks T) where
   unfolding record_stands
   record_none h n = simp (le-ltb r (blocks T) (omega arith), ne_eqb r (blocks T) (λ q. n (q ∙ sym e)))
 
--- a record that isn't the head
-pub size_past_head : (H nth : ℕ) → (nth ≡ 0 → ⊥) → record_size H nth ≡ block_size
-size_past_head H nth n = ap (record_size H) (one_past nth n)
-
 pub stands_past_head :
     (tests : List Bool) (T nth offset byte : ℕ) → (nth ≡ 0 → ⊥) → stands_in tests T nth offset byte ≡ record_stands T (nth - 1) offset byte
 unfolding stands_in

@@ -109,10 +109,6 @@ sum_at_same xs ys starts n to a at q f later w h =
     sum_same xors n (λ u. get_or ys (run_start starts u + q) 0) (λ u. get_or xs (run_start starts u + q) 0)
     (λ u lo hi. w.after (run_start starts u + q) (omega (arith, later.from u lo hi)))
 
--- index p, as a block that starts at index `at` counts it
-pub counted_on : (p at : ℕ) → at ≤ p → at + (p - at) ≡ p
-counted_on p at h = omega arith
-
 -- and one that starts `at` behind `to`
 behind : (p to at : ℕ) → to + at ≤ p → at + (p - (to + at)) ≡ p - to
 behind p to at h = omega arith
@@ -123,15 +119,6 @@ pub sum_within :
     → sum_at ys starts n (at + (p - (to + at))) ≡ sum_at xs starts n (p - to)
 sum_within xs ys starts n to a at p f later w h =
     ap (sum_at ys starts n) (behind p to at h) ∙ sum_at_same xs ys starts n to a at (p - to) f later w (omega arith)
-
--- what blocks leave over is laid first, as the beginning of a block, and then the rest
-pub laid_all :
-    (from starts : List ℕ) (n first : ℕ) (block xs ys zs : List ℕ) (long : ℕ) → BlockOf from starts n 0 block → first ≤ widest_block → first ≤ long
-    → Laid xs ys 0 first (λ p. get_or block (0 + (p - 0)) 0) → Laid ys zs first long (sum_at from starts n) → Laid xs zs 0 long (sum_at from starts n)
-laid_all from starts n first block xs ys zs long w few h front rest =
-    laid_on xs ys zs 0 first long (sum_at from starts n) (omega arith) h
-    (block_laid from starts n 0 block xs ys 0 first (sum_at from starts n) w (omega arith) front (λ p lo hi. ap (sum_at from starts n) (counted_on p 0 lo)))
-    rest
 
 -- the same within one buffer
 pub laid_within :
