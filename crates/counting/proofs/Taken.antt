@@ -6,7 +6,6 @@ use Prim.Native.Nat.{ℕ, ◌+◌, ◌-◌, ◌*◌, ◌≤◌, ◌<◌}
 use native.Mathlib.Nat.{zero-add}
 use native.Mathlib.Omega.{arith}
 use lib.ListN.{get_or}
-use borrow.Author.Tests.{eq-eqb, ne_eqb}
 use Rattle.letters.specs.Algebra.{counts, sum}
 use Rattle.letters.specs.Places.{letter}
 use Rattle.letters.proofs.Cases.{le_or_lt}
@@ -93,12 +92,6 @@ module _ (buffer : List ℕ) (start n : ℕ) where
 -- the terms are never more than the run's letters
 pub terms_few : (buffer : List ℕ) (start n : ℕ) (rows : List ℕ) (b a : ℕ) → run_terms buffer start n rows b a ≤ n
 terms_few buffer start n rows b a = omega (arith, terms_at_most n (shift_in rows) (letter 0 buffer start n) b a)
-
-pub other_own : (a b m : ℕ) → a ≡ b → other a b m ≡ 0
-other_own a b m e = simp (eq-eqb a b e)
-
-pub other_apart : (a b m : ℕ) → (a ≡ b → ⊥) → other a b m ≡ m
-other_apart a b m ne = simp (ne_eqb a b ne)
 
 -- solving by sequences, as the code counts: of each all that the other ranks take
 pub by_sequences :

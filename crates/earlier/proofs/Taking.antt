@@ -12,7 +12,7 @@ use Rattle.system.specs.System.{sequence}
 use Rattle.system.proofs.System.{sequences}
 use Rattle.tiles.specs.Tile.{Tile, run_of, read_before, TakenTo, WithinTile}
 use Rattle.tiles.proofs.Runs.{before_same}
-use Rattle.tiles.proofs.Taking.{taken_start, taken_more, taken_out_start, taken_out_more}
+use Rattle.tiles.proofs.Taking.{taken_start, taken_more, taken_out_more}
 use Rattle.tiles.proofs.Tile.{within_then}
 use Rattle.tiles.proofs.Buffers.{changed_within, changed_only}
 use Rattle.spans.specs.Steps.Spans.{RunPlaced, HasBegun}
@@ -25,15 +25,6 @@ takes_first n t done count b xs =
     record {
       only = record { same_length = refl; kept = λ i out. refl };
       taken = taken_start xors t done count (sequence 0 xs n) b (run_of 0 t done count (sequence 0 xs n) b) (λ p lp hp. refl);
-    }
-
--- and before the first rank out of none
-pub takes_out_none : (s n : ℕ) (t : ℕ → ℕ → ℕ) (done count below hi : ℕ) (xs : List ℕ) → TakesOut s n t done count below hi xs below xs
-takes_out_none s n t done count below hi xs =
-    record {
-      same_length = refl;
-      within = λ a q la ha lq hq out. refl;
-      taken = taken_out_start xors t done count below hi (sequence 0 xs n);
     }
 
 module _ {s n : ℕ} {t : ℕ → ℕ → ℕ} {done count below hi : ℕ} (tile : Tile s n t done count below hi) where

@@ -1,5 +1,5 @@
 -- Letters compared part after part.
-use mathlib.Core.Path.{◌≡◌, refl, sym, ap, subst, ◌∙◌}
+use mathlib.Core.Path.{◌≡◌, refl, sym, ap, ◌∙◌}
 use mathlib.Core.List.{List}
 use mathlib.Core.Logic.{⊎_elim}
 use Prim.Native.Nat.{ℕ, ◌+◌, ◌-◌, ◌≤◌, ◌<◌}
@@ -10,7 +10,7 @@ use lib.Seq.{get_or-take, get_or-drop, length-take-le}
 use Rattle.letters.proofs.Cases.{le_or_lt}
 use Rattle.sequences.specs.Steps.MovedRuns.{run_letter, MovedRuns, AllSeen, SeenStarts, Holding}
 use Rattle.sequences.specs.Moved.{moved}
-use Rattle.sequences.proofs.MovedRuns.{seen_sum, all_seen_on}
+use Rattle.sequences.proofs.MovedRuns.{seen_sum}
 use Rattle.letters.specs.Algebra.{xors}
 use Rattle.sums.specs.Sums.{run_start, sum_at}
 use Rattle.matching.specs.Same.{SameTo, SameFor}
@@ -124,11 +124,6 @@ module _ (held from starts leads : List ℕ) (n size a e : ℕ) (order : a ≤ e
   from_zero b q = ap (λ s. seen_letter from starts leads n size s q) (sym (zero-add b)) ∙ seen_on from starts leads n size 0 b q
 
   module _ (m : ℕ) (s : SameFor (part 0 a) (seen_letter from starts leads n size 0) m) where
-    pub first_ends : m < a → SameFor held right m
-    first_ends h =
-        subst (SameFor held right) (zero-add m)
-        (ends_in_part held right 0 a (omega arith) (omega arith) right m (λ q l. from_zero 0 q) (same_none held right) s (omega arith))
-
     first_whole : a ≤ m → SameTo held right a
     first_whole h = whole_part held right 0 a (omega arith) (omega arith) right m (λ q l. from_zero 0 q) (same_none held right) s (omega arith)
 
@@ -141,8 +136,3 @@ module _ (held from starts leads : List ℕ) (n size a e : ℕ) (order : a ≤ e
       last_ends h j u =
           last_part held right e (length held) fits (omega arith) (seen_letter from starts leads n size e) j (λ q l. from_zero e q)
           (whole_part held right a e order fits (seen_letter from starts leads n size a) k (λ q l. from_zero a q) (first_whole all) t h) u refl
-
--- where all runs have a letter, they have one from the middle's start on
-pub middle_seen : (leads : List ℕ) (n size a e count : ℕ) → AllSeen leads n size 0 a e → count ≡ e - a → AllSeen leads n size a 0 count
-middle_seen leads n size a e count all c =
-    subst (λ skip. AllSeen leads n size skip 0 count) (zero-add a) (all_seen_on leads n size 0 a e count all c)

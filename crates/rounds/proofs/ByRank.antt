@@ -12,25 +12,7 @@ use Rattle.tiles.proofs.Even.{delay_even}
 use Rattle.system.specs.Order.{delay}
 use Rattle.one_turn.specs.Tables.{nth, even_shift}
 use Rattle.one_turn.proofs.Tables.{nth_next, exponents_even}
-use Rattle.rounds.specs.Steps.Rounds.{Begun, Ended}
-
--- what holds by index holds by rank
-pub by_rank : (xs : List ℕ) (s : ℕ) (f : ℕ → ℕ) → ((i : ℕ) → i < s → get_or xs i 0 ≡ f (i + 1)) → (b : ℕ) → 1 ≤ b → b ≤ s → nth xs b ≡ f b
-by_rank xs s f all b lo hi = all (b - 1) (omega arith) ∙ ap f same
-  where
-    same : b - 1 + 1 ≡ b
-    same = omega arith
-
--- the rank after the last that has ended goes on, or comes later
-pub still_going :
-    (s n : ℕ) (delays : List ℕ) (below hi done : ℕ) → below < s → below ≤ hi → Begun s delays s done hi → Ended n hi delays hi done below
-    → done < n + nth delays (below + 1)
-still_going s n delays below hi done some order begun ended =
-    ⊎_elim
-    (λ none.
-    let last : hi ≡ below = omega arith in
-    omega (arith, begun.next (omega arith), ap (λ m. nth delays (m + 1)) last))
-    (λ h. ended.next h) (le_or_lt hi below)
+use Rattle.rounds.specs.Steps.Rounds.{Ended}
 
 -- the delay of the rank after index b: its exponent more than the one before it
 pub next_delay :

@@ -1,18 +1,13 @@
 -- Runs that are moved right and summed: run by run, in one pass, and part after part of the window.
-use mathlib.Core.Path.{◌≡◌, refl, sym, ap, subst, ◌∙◌}
+use mathlib.Core.Path.{◌≡◌, refl, sym, ap, ◌∙◌}
 use mathlib.Core.List.{List}
-use mathlib.Core.Logic.{⊎_elim}
 use Prim.Native.Nat.{ℕ, ◌+◌, ◌-◌, ◌^◌, ◌≤◌, ◌<◌}
-use native.Mathlib.Nat.{add-zero}
 use native.Mathlib.Omega.{arith}
 use lib.Bits.{bit_xor, xor_zero_r}
-use lib.ListN.{length, get_or, take, drop, length-drop}
-use lib.Seq.{length-take-le}
-use borrow.Rule.Slice.PartMut.{put_mid}
+use lib.ListN.{length, get_or, take, drop}
 use Rattle.letters.specs.Algebra.{xors, sum}
 use Rattle.letters.specs.Places.{letter}
 use Rattle.letters.specs.Laid.{Laid}
-use Rattle.letters.proofs.Cases.{le_or_lt}
 use Rattle.letters.proofs.Places.{letter_inside}
 use Rattle.letters.proofs.Sums.{sum_same, sum_split, sum_none}
 use Rattle.sums.specs.Sums.{run_start, sum_at, RunsInside}
@@ -20,7 +15,6 @@ use Rattle.sums.proofs.Sums.{fits_at}
 use Rattle.sequences.specs.Moved.{moved}
 use Rattle.sequences.specs.Steps.Windows.{Seen, Adds, Summed}
 use Rattle.sequences.specs.Steps.MovedRuns.{run_letter, MovedRuns, AllSeen, SeenFrom, Holding}
-use Rattle.sequences.proofs.PutBack.{back, back_length, back_before, back_inside}
 use Rattle.sequences.proofs.Summing.{part_adds}
 
 -- the code counts from 0
@@ -85,31 +79,6 @@ module _ (from starts leads seen : List ℕ) (n size skip count : ℕ) (r : Move
             };
       }
 
-module _ (n skip : ℕ) (shift : ℕ → ℕ) (x : ℕ → ℕ → ℕ) where
-  -- the first m letters of the window are summed up
-  abbrev pub SummedTo : ℕ → List ℕ → Type 0
-  SummedTo m buffer = (q : ℕ) → q < m → get_or buffer q 0 ≡ moved xors n shift x (q + 1 + skip)
-
-  -- a part that was lent from index a on has come back, summed up
-  pub part_summed :
-      (a e : ℕ) (xs ys : List ℕ) (order : a ≤ e) (fits : e ≤ length xs) (long : length ys ≡ e - a) → SummedTo a xs → Summed n (skip + a) shift x ys
-      → SummedTo e (back xs ys a e order fits long)
-  part_summed a e xs ys order fits long done s q h =
-      ⊎_elim
-      (λ past.
-      ap (λ i. get_or (back xs ys a e order fits long) i 0) (there q a past)
-      ∙ back_inside xs ys a e order fits long 0 (q - a) (omega arith)
-      ∙ s.sums (q - a) (omega arith)
-      ∙ ap (moved xors n shift x) (place q a past))
-      (λ early. back_before xs ys a e order fits long 0 q early ∙ done q early)
-      (le_or_lt a q)
-    where
-      there : (q a : ℕ) → a ≤ q → q ≡ a + (q - a)
-      there q a h = omega arith
-
-      place : (q a : ℕ) → a ≤ q → q - a + 1 + (skip + a) ≡ q + 1 + skip
-      place q a h = omega arith
-
 -- the same sum by other names, and with sequences of zeros behind it
 pub moved_as :
     (n m skip : ℕ) (shift shift' : ℕ → ℕ) (x y : ℕ → ℕ → ℕ) (buffer : List ℕ)
@@ -145,62 +114,3 @@ seen_from starts leads n size skip count long r all room =
       begun = leads_at leads n size skip count all;
       small = λ u h. omega (arith, fits_at starts n size long r.inside u h, all.going);
     }
-
--- seen from index a of the window on
-pub all_seen_on : (leads : List ℕ) (n size skip a e count : ℕ) → AllSeen leads n size skip a e → count ≡ e - a → AllSeen leads n size (skip + a) 0 count
-all_seen_on leads n size skip a e count all c =
-    record { order = omega arith; begun = λ u lo hi. omega (arith, all.begun u lo hi); going = omega (arith, all.going, all.order) }
-
--- the length of a part
-pub part_length : (xs : List ℕ) (a e : ℕ) → a ≤ e → e ≤ length xs → length (take (e - a) (drop a xs)) ≡ e - a
-part_length xs a e order fits = length-take-le (e - a) (drop a xs) (rw length-drop (omega arith))
-
--- the three parts of a window, lent one after another, and what comes back of each
-module _ (from starts leads : List ℕ) (n size skip a e : ℕ) (xs x₁ x₂ x₃ : List ℕ) (order : a ≤ e) (fits : e ≤ length xs)
-    (h₁ : Holding from starts leads n size skip (take (a - 0) (drop 0 xs)) x₁) where
-  long₁ : length x₁ ≡ a - 0
-  long₁ = h₁.same_length ∙ part_length xs 0 a (omega arith) (omega arith)
-
-  abbrev pub after₁ : List ℕ
-  after₁ = put_mid 0 (a - 0) xs x₁
-
-  pub kept₁ : length after₁ ≡ length xs
-  kept₁ = back_length xs x₁ 0 a (omega arith) (omega arith) long₁
-
-  module _ (h₂ : Holding from starts leads n size (skip + a) (take (e - a) (drop a after₁)) x₂) where
-    fits₂ : e ≤ length after₁
-    fits₂ = omega (arith, kept₁)
-
-    long₂ : length x₂ ≡ e - a
-    long₂ = h₂.same_length ∙ part_length after₁ a e order fits₂
-
-    abbrev pub after₂ : List ℕ
-    after₂ = put_mid a (e - a) after₁ x₂
-
-    pub kept₂ : length after₂ ≡ length xs
-    kept₂ = back_length after₁ x₂ a e order fits₂ long₂ ∙ kept₁
-
-    module _ (h₃ : Holding from starts leads n size (skip + e) (take (length after₂ - e) (drop e after₂)) x₃) where
-      fits₃ : e ≤ length after₂
-      fits₃ = omega (arith, kept₂)
-
-      long₃ : length x₃ ≡ length after₂ - e
-      long₃ = h₃.same_length ∙ part_length after₂ e (length after₂) fits₃ (omega arith)
-
-      pub three_parts : Holding from starts leads n size skip xs (put_mid e (length after₂ - e) after₂ x₃)
-      three_parts =
-          let kept₃ = back_length after₂ x₃ e (length after₂) fits₃ (omega arith) long₃ in
-          record {
-            same_length = kept₃ ∙ kept₂;
-            summed =
-                record {
-                  sums =
-                      λ q h.
-                      part_summed n skip (run_start leads) (run_letter from starts size) e (length after₂) after₂ x₃ fits₃ (omega arith) long₃
-                      (part_summed n skip (run_start leads) (run_letter from starts size) a e after₁ x₂ order fits₂ long₂
-                      (part_summed n skip (run_start leads) (run_letter from starts size) 0 a xs x₁ (omega arith) (omega arith) long₁ (λ q h. absurd (omega arith))
-                      (subst (λ m. Summed n m (run_start leads) (run_letter from starts size) x₁) (sym (add-zero skip)) h₁.summed))
-                      h₂.summed)
-                      h₃.summed q (omega (arith, kept₃));
-                };
-          }

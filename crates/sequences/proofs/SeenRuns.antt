@@ -97,15 +97,3 @@ pub seen_whole : (run into after : List ℕ) (ahead : ℕ) → after ≡ added x
 seen_whole run into after ahead is =
     subst (λ xs. Seen run 0 ahead into xs) (sym (is ∙ ap (added xors into ahead) (sym (take_all (length run) run (omega arith)))))
     (seen_part run 0 ahead into ahead 0 (length run) (omega arith) (inr refl) (omega arith) (λ q l a p. omega arith))
-
--- only the difference of the two moves counts
-pub seen_by_difference :
-    (run : List ℕ) (s l s' l' : ℕ) (into after : List ℕ) → s + l' ≡ s' + l → Seen run s l into after → Seen run s' l' into after
-seen_by_difference run s l s' l' into after e seen =
-    record {
-      same_length = seen.same_length;
-      letters = λ q h. seen.letters q h ∙ ap (λ p. bit_xor (get_or into q 0) (letter 0 run 0 (length run) p)) (place q);
-    }
-  where
-    place : (q : ℕ) → (q + 1 + s) - l ≡ (q + 1 + s') - l'
-    place q = omega arith

@@ -1,6 +1,5 @@
 -- One tile of a buffer of sequences: its runs lie in their sequences, what solves them by themselves solves the tile, and no other letter changes.
 use native.Mathlib.Omega.{arith}
-use native.Mathlib.Nat.{mul-le-mul_right, add-mul, one-mul}
 use lib.ListN.{get_or}
 use mathlib.Core.Path.{◌≡◌, sym, ap, ap₂, ◌∙◌}
 use mathlib.Core.List.{List}
@@ -23,7 +22,7 @@ use Rattle.tiles.proofs.Spans.{span_same}
 use Rattle.tiles.proofs.Runs.{run_letter_lem}
 use Rattle.tiles.proofs.Buffers.{outside}
 use Rattle.tiles.proofs.Tile.{through_tile, within_then, tile_by_ends}
-use Rattle.one_turn.specs.Tables.{nth, even_shift, RunsApart, runs_in, OnlyRuns}
+use Rattle.one_turn.specs.Tables.{nth, even_shift, runs_in, OnlyRuns}
 use Rattle.one_turn.proofs.Tables.{nth_next}
 use Rattle.rounds.specs.Steps.Rounds.{Exponents, Waits, RunStarts, Begun, Ended, Cut}
 use Rattle.solving.specs.Steps.Tiles.{TablesOf, Onward}
@@ -49,26 +48,6 @@ module _ (s n : ℕ) (rows exps delays starts : List ℕ) (tables : TablesOf s r
     where
       fits : (d : ℕ) → d ≤ done → done + m ≤ n + d → (done - d) + m ≤ n
       fits d h l = omega arith
-
-  -- a sequence ends where a later one starts, or before
-  row_before : (a b : ℕ) → 1 ≤ a → a < b → (a - 1) * n + n ≤ (b - 1) * n
-  row_before a b la h =
-      let next : a - 1 + 1 ≤ b - 1 = omega arith in
-      omega (arith, mul-le-mul_right n next, add-mul (a - 1) 1 n, one-mul n)
-
-  pub runs_apart : (long : ℕ) → long ≡ s * n → RunsApart starts below hi m long
-  runs_apart long is =
-      record {
-        size = runs.size;
-        few = omega (arith, tile.few, tables.tables.few);
-        order =
-            λ a b lo h hb.
-            omega (arith, start_here a lo (omega arith), start_here b (omega arith) hb, run_fits a lo (omega arith), row_before a b (omega arith) h);
-        fits = λ b lo hb. omega (arith, start_here b lo hb, run_fits b lo hb, row_before b (s + 1) (omega arith) (omega (arith, tile.few)), ap (λ m. m * n) back);
-      }
-    where
-      back : s + 1 - 1 ≡ s
-      back = omega arith
 
   -- the run of rank b as the turns see it
   run_here : (xs : List ℕ) (b p : ℕ) → below < b → b ≤ hi → run_of 0 (shift_in rows) done m (sequence 0 xs n) b p ≡ runs_in starts m xs b p
