@@ -1,5 +1,5 @@
 -- `pull_blocks` meets its contract: after each turn one later column more has its start.
-use Prim.Native.Nat.{◌-◌, ◌≤◌}
+use Prim.Native.Nat.{◌-◌}
 use Rattle.column_blocks.proofs.Blocks.{ColumnsSeen}
 use Rattle.column_blocks.proofs.pull_blocks.Given as goal
 

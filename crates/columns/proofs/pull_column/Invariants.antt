@@ -1,5 +1,4 @@
 -- `pull_column` meets its contract: after each turn one entry more is done, and past column k there is nothing to do.
-use Prim.Native.Nat.{◌-◌, ◌≤◌}
 use Rattle.columns.specs.Steps.Columns.{Pulled}
 use Rattle.columns.proofs.pull_column.Given as goal
 

@@ -1,7 +1,7 @@
 -- `right_packets` meets its contract: the packets before index end are right.
 use native.Mathlib.Omega.{arith}
 use mathlib.Core.Path.{sym, ◌∙◌}
-use Prim.Native.Nat.{◌+◌, ◌-◌}
+use Prim.Native.Nat.{◌+◌}
 use Rattle.lengths.proofs.Sizes.{node_at_most, packet_fits}
 use Rattle.matrix.proofs.Product.{packet_same, packet_first}
 use Rattle.matrix.proofs.OneAfterAnother.{lent, ends}

@@ -1,6 +1,6 @@
 -- `right_packets` meets its contract: the packets before index end are right.
 use mathlib.Core.Path.{◌≡◌}
-use Prim.Native.Nat.{◌≤◌, ◌+◌, ◌-◌}
+use Prim.Native.Nat.{◌+◌}
 use lib.ListN.{get_or}
 use Rattle.letters.specs.Algebra.{xors}
 use Rattle.lengths.specs.Lengths.{packet_start}

@@ -2,7 +2,6 @@
 use native.Mathlib.Omega.{arith}
 use mathlib.Core.Path.{◌≡◌, ap}
 use Rattle.std.proofs.Common.{rules}
-use Prim.Native.Nat.{◌≤◌}
 use Rattle.comparing_nodes.specs.declared.Found.TheVariants.{Several}
 use Rattle.agreement.proofs.Comparing.{compared_none}
 use Rattle.comparing_nodes.specs.Steps.Noting.{wrong_of}

@@ -1,6 +1,5 @@
 -- `compare_all` meets its contract: the first v ranks are compared.
-use Prim.Native.Nat.{◌≤◌, ◌<◌, ◌-◌}
-use lib.ListN.{length}
+use Prim.Native.Nat.{◌<◌}
 use Rattle.agreement.specs.Steps.Trying.{Compared}
 use Rattle.comparing_nodes.specs.Steps.Noting.{wrong_of, rank_of, place_of}
 use Rattle.comparing_nodes.proofs.compare_all.Given as goal

@@ -1,6 +1,6 @@
 -- `starts` meets its contract: after v turns the letters of the first v ranks are counted.
 use mathlib.Core.Path.{◌≡◌}
-use Prim.Native.Nat.{ℕ, ◌-◌, ◌≤◌}
+use Prim.Native.Nat.{ℕ, ◌≤◌}
 use lib.ListN.{length, get_or}
 use Rattle.agreement.specs.Agreement.{letters_of}
 use Rattle.present.proofs.starts.Given as goal

@@ -1,5 +1,4 @@
 -- `recover_columns` meets its contract: after each turn one column more is done.
-use Prim.Native.Nat.{◌≤◌}
 use Rattle.solved_columns.specs.Steps.Recovery.{Stage}
 use Rattle.solved_columns.proofs.recover_columns.Given as goal
 

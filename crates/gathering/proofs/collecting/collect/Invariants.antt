@@ -1,5 +1,5 @@
 -- `collecting::collect` meets its contract: the first u columns stand one after another.
-use Prim.Native.Nat.{◌≤◌, ◌+◌, ◌-◌, ◌*◌}
+use Prim.Native.Nat.{◌+◌, ◌*◌}
 use lib.ListN.{get_or}
 use Rattle.letters.specs.Laid.{Laid}
 use Rattle.matrix.specs.Matrix.{before}

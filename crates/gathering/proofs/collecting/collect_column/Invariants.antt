@@ -1,6 +1,6 @@
 -- `collecting::collect_column` meets its contract: the first v pieces stand one after another.
 use mathlib.Core.Path.{◌≡◌}
-use Prim.Native.Nat.{◌≤◌, ◌+◌, ◌-◌, ◌*◌}
+use Prim.Native.Nat.{◌+◌, ◌-◌, ◌*◌}
 use lib.ListN.{get_or}
 use Rattle.letters.specs.Laid.{Laid}
 use Rattle.matrix.specs.Matrix.{before, entry_number}

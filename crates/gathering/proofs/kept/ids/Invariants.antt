@@ -1,6 +1,6 @@
 -- `kept::ids` meets its contract: after v turns the first v ids are there.
 use mathlib.Core.Path.{◌≡◌}
-use Prim.Native.Nat.{ℕ, ◌+◌, ◌-◌, ◌≤◌, ◌<◌}
+use Prim.Native.Nat.{ℕ, ◌+◌, ◌-◌, ◌<◌}
 use lib.ListN.{length, get_or}
 use Rattle.agreement.specs.Steps.Trying.{kept_rank}
 use Rattle.gathering.proofs.kept.ids.Given as goal

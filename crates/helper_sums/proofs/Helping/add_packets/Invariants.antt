@@ -1,6 +1,6 @@
 -- `add_packets` meets its contract: after each turn one packet more is in the sum, and `end` is where the next one starts.
 use mathlib.Core.Path.{◌≡◌}
-use Prim.Native.Nat.{◌≤◌, ◌+◌, ◌-◌}
+use Prim.Native.Nat.{◌+◌}
 use lib.ListN.{length}
 use Rattle.letters.specs.Algebra.{xors}
 use Rattle.shifts.specs.Rule.{t}

@@ -1,7 +1,7 @@
 -- `packet_starts` meets its contract: after every turn one start more stands in the list, and `start` is the next one.
 use native.Mathlib.Omega.{arith}
 use mathlib.Core.Path.{refl, sym, ap₂, ◌∙◌}
-use Prim.Native.Nat.{◌+◌, ◌-◌}
+use Prim.Native.Nat.{◌+◌}
 use lib.ListN.{length-set}
 use Rattle.sums.proofs.Filled.{filled_more}
 use Rattle.lengths.proofs.Sizes.{node_at_most, packet_fits}

@@ -1,6 +1,6 @@
 -- `packet_starts` meets its contract: after every turn one start more stands in the list, and `start` is the next one.
 use mathlib.Core.Path.{◌≡◌}
-use Prim.Native.Nat.{ℕ, ◌+◌, ◌-◌, ◌≤◌, ◌<◌}
+use Prim.Native.Nat.{ℕ, ◌+◌, ◌<◌}
 use lib.ListN.{length, get_or}
 use Rattle.lengths.specs.Lengths.{packet_start}
 use Rattle.helper_sums.proofs.Helping.packet_starts.Given as goal

@@ -1,7 +1,6 @@
 -- `reporting::nodes` meets its contract: after i turns the first i entries are right.
 use native.Mathlib.Omega.{arith}
 use mathlib.Core.Path.{ap, ◌∙◌}
-use Prim.Native.Nat.{◌-◌}
 use lib.ListN.{length, length-set}
 use Rattle.odd_report.specs.Standings.{standing_in}
 use Rattle.comparing_nodes.specs.Steps.Noting.{wrong_of, place_of}

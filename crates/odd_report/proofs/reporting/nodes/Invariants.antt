@@ -1,6 +1,6 @@
 -- `reporting::nodes` meets its contract: after i turns the first i entries are right.
 use mathlib.Core.Path.{◌≡◌}
-use Prim.Native.Nat.{ℕ, ◌+◌, ◌-◌, ◌≤◌, ◌<◌}
+use Prim.Native.Nat.{ℕ, ◌+◌, ◌<◌}
 use lib.ListN.{length, get_or}
 use Rattle.odd_report.specs.declared.Standing.TheVariants.{Absent}
 use Rattle.odd_report.specs.Standings.{standing_in}

@@ -1,9 +1,7 @@
 -- `search::search` meets its contract: the tries without the ranks after `without` all failed.
 use native.Mathlib.Omega.{arith}
 use mathlib.Core.Path.{◌≡◌, ap, refl, subst}
-use mathlib.Core.Logic.{⊎_elim}
-use Prim.Native.Nat.{◌<◌, ◌≤◌}
-use lib.ListN.{length}
+use Prim.Native.Nat.{◌≤◌}
 use Rattle.std.proofs.Common.{rules}
 use Rattle.comparing_nodes.specs.declared.Found.TheVariants.{Several}
 use Rattle.comparing_nodes.proofs.Noting.{few_wrong}

@@ -1,6 +1,5 @@
 -- `search::search` meets its contract: the tries without the ranks after `without` all failed.
 use mathlib.Core.Path.{◌≡◌}
-use Prim.Native.Nat.{◌≤◌, ◌+◌}
 use lib.ListN.{length}
 use Rattle.lengths.specs.Lengths.{file_letters}
 use Rattle.present.specs.Steps.Places.{Present}
