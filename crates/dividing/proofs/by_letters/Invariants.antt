@@ -1,5 +1,5 @@
 -- The letters before index i are summed.
-use Rattle.std.proofs.Common.{◌+◌, ◌≤◌}
+use Rattle.std.proofs.Common.{◌+◌}
 use Rattle.dividing.specs.Running.{RunningSum}
 use Rattle.dividing.proofs.by_letters.Given as goal
 
