@@ -9,7 +9,7 @@ ghost use Rattle.rounds.specs.Steps.Rounds.{Begun, Ended, Cut};
 // The most rounds of a tile, so that its runs stay near the processor however long the sequences are.
 const LONGEST: usize = 2048;
 
-// How many ranks have begun after `done` rounds, `hi` at least.
+// How many ranks have begun after `done` rounds, `hi` at least. It takes no `equation::System`, here and below, since it asks less than that one can be solved.
 pub fn begun(s: usize, delays: &[usize], hi: usize, done: usize) -> usize
     requires { (s ≤ 16) × (length delays.now ≡ 16) × (Begun s delays.now 0 done hi) }
     ensures { (Begun s delays.now s done result) × (hi ≤ result) }

@@ -4,7 +4,8 @@ ghost use Rattle.sequences.specs.Steps.MovedRuns.{MovedRuns, AllSeen, SeenFrom, 
 
 use crate::windows;
 
-// Runs of `from`, of `size` letters each, that start at the indices in `starts` and are moved right by the leads: one for each start at least.
+// Runs of `from`, of `size` letters each, that start at the indices in `starts` and are moved right by the leads: one for each start at least. They are two lists, since the starts
+// go on to the sums alone, and the leads are a node's whole row of shifts.
 #[derive(Clone, Copy)]
 pub struct Moved<'a> {
     pub from: &'a [u8],

@@ -7,7 +7,7 @@ ghost use Rattle.spans.specs.Steps.Spans.{RunPlaced, HasBegun, Reads, ReadsBefor
 
 use equation::{System, place};
 
-// The letters of a sequence that a run reads: the first of them is read by the letter after `skip` of the run, and stands at place `place`.
+// The letters of a sequence that a run reads: the first of them is read by the letter after `skip` of the run, and stands at place `place`. Where there is none, the count is 0.
 #[derive(Clone, Copy)]
 pub struct Span {
     pub skip: usize,
