@@ -53,21 +53,23 @@ fn add(
     Ok(after)
 }
 
-// All nodes that have a file.
+// All nodes that have a file, as far as there is room for their ids.
 pub fn gather<'a>(
     rt: &(impl Env + Files),
     batch: &Batch,
     bytes: &mut [u8],
     packets: &'a mut [u8],
-    ids: &'a mut [usize; 16],
+    ids: &'a mut [usize],
 ) -> Result<Gathered<'a>, Problem> {
     let mut nodes = 0;
     let mut end = 0;
     for node in (1..17).rev() {
         if let Some(nth) = batch.file_of(node) {
             end = add(rt, nth, batch.head_of(node), bytes, packets, end)?;
-            ids[nodes] = node;
-            nodes += 1;
+            if nodes < ids.len() {
+                ids[nodes] = node;
+                nodes += 1;
+            }
         }
     }
     Ok(Gathered {
