@@ -1,5 +1,5 @@
 -- Laws of running sums: none, part after part, a block, a letter, and a stride twice as wide.
-use mathlib.Core.Path.{◌≡◌, sym, ap, ◌∙◌}
+use mathlib.Core.Path.{◌≡◌, refl, sym, ap, ◌∙◌}
 use mathlib.Core.List.{List}
 use mathlib.Core.Logic.{⊎_elim}
 use Prim.Native.Nat.{ℕ, zero, suc, ◌+◌, ◌-◌, ◌%◌, ◌≤◌, ◌<◌}
@@ -17,6 +17,9 @@ use Rattle.adding_after.proofs.Downward.{added_laid}
 use Rattle.letters.specs.Steps.Rests.{left_over}
 use Rattle.dividing.specs.Running.{RunningSum}
 use Rattle.dividing.specs.Steps.Widening.{step}
+
+pub nothing_summed : (xs : List ℕ) (a b w : ℕ) → b ≤ a → RunningSum xs xs a b w
+nothing_summed xs a b w order = record { same_length = refl; before = λ p h. refl; summed = λ p lo hi. absurd (omega arith); after = λ p h. refl }
 
 -- up to the same index by another name
 pub summed_until : (xs ys : List ℕ) (a b c w : ℕ) → c ≡ b → RunningSum xs ys a b w → RunningSum xs ys a c w

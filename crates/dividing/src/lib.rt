@@ -103,8 +103,10 @@ fn sum_steps(part: &mut [u8], to: usize, from: usize, count: usize)
     requires { (left_over count step ≡ 0) × (from + step ≤ to) × (to + count ≤ length part.old) }
     ensures { RunningSum part.old part.new to (to + count) (to - from) }
 {
-    for s in 0..count / STEP {
-        let i = s * STEP;
+    // No `for` over the steps: the compiler lays four of these turns out in a row (19 instructions for 64 letters), but two of those (24).
+    let mut i = 0;
+    while i < count {
         blocks::add_block(part, to + i, from + i, STEP);
+        i += STEP;
     }
 }

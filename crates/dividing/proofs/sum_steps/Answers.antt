@@ -1,19 +1,35 @@
--- After every turn one step more is in.
-use Rattle.std.proofs.Common.{◌+◌, ◌-◌, ◌*◌, arith}
+-- `sum_steps` meets its contract: after every turn the first i letters are in, which are whole steps.
+use mathlib.Core.Path.{refl, sym}
+use Prim.Native.Nat.{◌+◌, ◌-◌}
+use native.Mathlib.Omega.{arith}
 use Rattle.dividing.specs.Steps.Widening.{step}
-use Rattle.dividing.proofs.Running.{summed_block, summed_then, summed_until, whole_steps}
+use Rattle.dividing.proofs.Running.{nothing_summed, summed_block, summed_then, summed_until, whole_steps}
+use borrow.Author.Rules.{rules}
 use Rattle.dividing.proofs.sum_steps.Goals as goal
 
-pub loop-s-preserved : goal.loop-s-preserved
-loop-s-preserved c =
-    let l = c.loop-s in
+pub loop-i-init : goal.loop-i-init
+loop-i-init c = (omega arith, sym (whole_steps _ c.requires.0), refl, nothing_summed _ _ _ _ (omega arith))
+
+pub add_block-requires : goal.add_block-requires
+add_block-requires c = (omega arith, omega arith, omega arith)
+
+pub loop-i-smaller : goal.loop-i-smaller
+loop-i-smaller c = omega arith
+
+pub loop-i-preserved : goal.loop-i-preserved
+loop-i-preserved c =
+    let l = c.loop-i in
     let a = c.args in
-    let i = l.s * step in
-    let end = a.to + (l.s + 1) * step in
-    let block = summed_block l.part _ (a.to + i) (a.from + i) step end (a.to - a.from) (omega arith) (omega arith) (omega arith) (omega (arith, l.invariant.same_length)) c.add_block.ensures in
-    summed_then a.part.now _ _ a.to (a.to + i) end (a.to - a.from) (omega arith) (omega arith) l.invariant block
+    let block = summed_block l.part _ (a.to + l.i) (a.from + l.i) step (a.to + (l.i + step)) (a.to - a.from) (omega arith) (omega arith)
+    (omega arith) (omega arith) c.add_block.ensures in (
+      omega arith,
+      omega arith,
+      search rules,
+      summed_then a.part.now _ _ a.to (a.to + l.i) (a.to + (l.i + step)) (a.to - a.from) (omega arith) (omega arith) l.invariant.3 block,
+    )
+
+pub shape_of-part : goal.shape_of-part
+shape_of-part c = c.loop-i.invariant.2
 
 pub returns : goal.returns
-returns c =
-    let whole = whole_steps _ c.requires.0 in
-    summed_until _ _ _ (c.args.to + c.loop-s.s * step) _ _ (omega arith) c.loop-s.invariant
+returns c = summed_until _ _ _ _ _ _ (omega arith) c.loop-i.invariant.3

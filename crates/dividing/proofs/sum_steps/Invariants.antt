@@ -1,8 +1,17 @@
--- After every turn one step more is in.
-use Rattle.std.proofs.Common.{◌+◌, ◌-◌, ◌*◌}
+-- `sum_steps` meets its contract: after every turn the first i letters are in, which are whole steps.
+use mathlib.Core.Path.{◌≡◌}
+use Prim.Native.Nat.{◌+◌, ◌-◌, ◌%◌, ◌≤◌}
+use lib.ListN.{length}
 use Rattle.dividing.specs.Running.{RunningSum}
 use Rattle.dividing.specs.Steps.Widening.{step}
 use Rattle.dividing.proofs.sum_steps.Given as goal
 
-abbrev pub invariant-loop-s : goal.invariant-loop-s
-invariant-loop-s l = RunningSum l.initial.part l.part l.to (l.to + l.s * step) (l.to - l.from)
+abbrev pub invariant-loop-i : goal.invariant-loop-i
+invariant-loop-i l =
+    (l.i ≤ l.count)
+    × (l.i % step ≡ l.count % step)
+    × (length l.part ≡ length l.initial.part)
+    × RunningSum l.initial.part l.part l.to (l.to + l.i) (l.to - l.from)
+
+abbrev pub decreases-loop-i : goal.decreases-loop-i
+decreases-loop-i l = l.count - l.i
