@@ -27,11 +27,12 @@ pub returns : goal.returns
 returns c =
     let r = c.search-found in
     elim c.if-eq.branch [
-      then-eq w ↦
-        (let same : r.result ≡ Several = search rules in
-        let many : 2 ≤ wrong_of r.result = (let n = ap wrong_of same in omega arith) in
-        rw w.file-is (unsettled_reports _ _ _ _ c.requires r.result _ c.told.ensures _ _ many r.ensures.found
-        (cleared _ _ _ r.ensures.length w.fill.ensures.len (w.fill.ensures.after (λ y e. e)))))
-    | else-eq w ↦
-        (let other : r.result ≡ Several → ⊥ = search rules in
-        rw w.file-is (settled_reports _ _ _ _ c.requires r.result _ c.told.ensures _ (few_wrong r.result other) r.ensures.found)) ]
+      | then-eq w ↦
+          (let same : r.result ≡ Several = search rules in
+          let many : 2 ≤ wrong_of r.result = (let n = ap wrong_of same in omega arith) in
+          rw w.file-is (unsettled_reports _ _ _ _ c.requires r.result _ c.told.ensures _ _ many r.ensures.found
+          (cleared _ _ _ r.ensures.length w.fill.ensures.len (w.fill.ensures.after (λ y e. e)))))
+      | else-eq w ↦
+          (let other : r.result ≡ Several → ⊥ = search rules in
+          rw w.file-is (settled_reports _ _ _ _ c.requires r.result _ c.told.ensures _ (few_wrong r.result other) r.ensures.found))
+    ]
