@@ -10,7 +10,6 @@ use borrow.Author.Tests.{eqb-true, eq-eqb}
 use Rattle.letters.specs.Algebra.{xors}
 use Rattle.group.specs.declared.Group.{Group}
 use Rattle.group.specs.declared.Refusal.{Refusal}
-use Rattle.group.specs.Answers.{Answer}
 use Rattle.group.specs.Answers.{refusal_number, unless}
 use Rattle.group.specs.Ranges.{group_refusal}
 use Rattle.ids.specs.Ids.{ids_refusal}
