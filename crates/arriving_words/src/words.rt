@@ -1,4 +1,5 @@
-// The nine words of a state, by their numbers 0 to 8: a caller in C holds them as bare memory, so each can be anything.
+// The nine words of a state, by their numbers 0 to 8: a caller in C holds them as bare memory, so each can be anything. The numbers are the scripts' own
+// (docs/SCRIPTS.md), and the words are fields: so they are matched one by one.
 use arriving::Arriving;
 
 // All of them.

@@ -60,7 +60,8 @@ fn five_nodes(lengths: &[usize], a: &mut [u8], b: &mut [u8], c: &mut [u8]) {
 }
 
 // A holds a file, a share or the collector's buffer, B a node's packets, and C pieces. They stay three parameters: the borrow checker doesn't follow a struct
-// of `&mut` slices of which one is lent while another is read. There is room for three of the longest sequences in A, and for two in B and C; in each with some letters more.
+// of `&mut` slices of which one is lent while another is read. There is room for three of the longest sequences in A, and for two in B and C; in each
+// with some letters more.
 fn main() {
     let mut a = lines::room::<3145792>();
     let mut b = lines::room::<2097216>();
