@@ -142,5 +142,5 @@ module _ (g : Group) (ids rows : List ℕ) (v w : ℕ) (e : Entry g ids rows v w
       (same_next g ids v buffer mid (later_kept 0 wide (from_next g ids buffer v w (g.d - v)) buffer mid first) w)
 
 -- an entry of the chosen nodes
-pub entry_of : (s : Senders) (v w : ℕ) → 1 ≤ w → w ≤ v → v ≤ s.g.k → Entry s.g s.ids.now s.rows.now v w
-entry_of s v w row upper low = record { chosen = s.chosen; shifts = s.shifts; row = row; upper = upper; low = low }
+pub senders_entry : (s : Senders) (v w : ℕ) → 1 ≤ w → w ≤ v → v ≤ s.g.k → Entry s.g s.ids.now s.rows.now v w
+senders_entry s v w row upper low = record { chosen = s.chosen; shifts = s.shifts; row = row; upper = upper; low = low }

@@ -22,7 +22,7 @@ use Rattle.agreement.proofs.Comparing.{next_fits, first_wrong, another_wrong, st
 use Rattle.comparing_nodes.specs.declared.Found.{Found}
 use Rattle.present.specs.Steps.Places.{Present, StartsAt}
 use Rattle.comparing_nodes.specs.declared.Found.TheVariants.{Nobody, One, Several}
-use Rattle.comparing_nodes.specs.Steps.Noting.{noted, wrong_of, rank_of, place_of}
+use Rattle.comparing_nodes.specs.Steps.Noting.{noted, wrong_nodes, wrong_rank, wrong_place}
 
 -- all letters are right, or there is a first wrong one
 module _ (held right : List ℕ) (m : ℕ) (same : SameFor held (λ q. get_or right q 0) m) (long : length held ≡ length right) where
@@ -47,13 +47,13 @@ module _ (found : Found) (rank right count : ℕ) where
   unfolding noted
   noted_right h = simp (le-leb count right h) refl
 
-  pub noted_first : right < count → wrong_of found ≡ 0 → noted found rank right count ≡ One (record { rank = rank; place = right + 1 })
+  pub noted_first : right < count → wrong_nodes found ≡ 0 → noted found rank right count ≡ One (record { rank = rank; place = right + 1 })
   unfolding noted
   noted_first h e = simp (lt-leb count right h, e) refl
 
-  pub noted_more : right < count → (wrong_of found ≡ 0 → ⊥) → noted found rank right count ≡ Several
+  pub noted_more : right < count → (wrong_nodes found ≡ 0 → ⊥) → noted found rank right count ≡ Several
   unfolding noted
-  noted_more h ne = simp (lt-leb count right h, ne_eqb (wrong_of found) 0 ne) refl
+  noted_more h ne = simp (lt-leb count right h, ne_eqb (wrong_nodes found) 0 ne) refl
 
 -- where more than one is wrong, nothing is said of the first
 first_untold : (g : Group) (ids handed file : List ℕ) (m r p : ℕ) → Compared g ids handed file m 2 r p → Compared g ids handed file m 2 0 0
@@ -101,7 +101,7 @@ module _ (g : Group) (ids handed starts : List ℕ) (here : Present g ids handed
       forth = omega arith
 
   -- what the comparison of the next rank makes of what was found
-  module _ (file : List ℕ) (found : Found) (few : wrong_of found < 2) (before : Compared g ids handed file v (wrong_of found) (rank_of found) (place_of found))
+  module _ (file : List ℕ) (found : Found) (few : wrong_nodes found < 2) (before : Compared g ids handed file v (wrong_nodes found) (wrong_rank found) (wrong_place found))
       (right : ℕ)
       (same : SameFor (take (get_or starts (v + 1) 0 - get_or starts v 0) (drop (get_or starts v 0) handed)) (λ q. get_or (packets xors g file (get_or ids v 0)) q 0) right) where
     abbrev held : List ℕ
@@ -131,20 +131,20 @@ module _ (g : Group) (ids handed starts : List ℕ) (here : Present g ids handed
     right_within = omega (arith, compared_here.to.within, count_is)
 
     abbrev Next : Found → Type 0
-    Next r = (wrong_of r ≤ 2) × Compared g ids handed file (v + 1) (wrong_of r) (rank_of r) (place_of r)
+    Next r = (wrong_nodes r ≤ 2) × Compared g ids handed file (v + 1) (wrong_nodes r) (wrong_rank r) (wrong_place r)
 
-    some_wrong : (w : ℕ) → wrong_of found ≡ w → right < count → Next (noted found (v + 1) right count)
+    some_wrong : (w : ℕ) → wrong_nodes found ≡ w → right < count → Next (noted found (v + 1) right count)
     some_wrong zero e h =
         subst Next (sym (noted_first found (v + 1) right count h e)) (
           omega arith,
-          first_wrong g ids handed file v (right + 1) (rank_of found) (place_of found)
-              (subst (λ w. Compared g ids handed file v w (rank_of found) (place_of found)) e before) (wrong_after held product right compared_here alike (omega (arith, count_is))),
+          first_wrong g ids handed file v (right + 1) (wrong_rank found) (wrong_place found)
+              (subst (λ w. Compared g ids handed file v w (wrong_rank found) (wrong_place found)) e before) (wrong_after held product right compared_here alike (omega (arith, count_is))),
         )
     some_wrong (suc zero) e h =
         subst Next (sym (noted_more found (v + 1) right count h (λ z. omega arith))) (
           omega arith,
-          first_untold g ids handed file (v + 1) _ _ (another_wrong g ids handed file v (right + 1) (rank_of found) (place_of found)
-              (subst (λ w. Compared g ids handed file v w (rank_of found) (place_of found)) e before) (wrong_after held product right compared_here alike (omega (arith, count_is)))),
+          first_untold g ids handed file (v + 1) _ _ (another_wrong g ids handed file v (right + 1) (wrong_rank found) (wrong_place found)
+              (subst (λ w. Compared g ids handed file v w (wrong_rank found) (wrong_place found)) e before) (wrong_after held product right compared_here alike (omega (arith, count_is)))),
         )
     some_wrong (suc (suc w)) e h = absurd (omega arith)
 
@@ -154,9 +154,9 @@ module _ (g : Group) (ids handed starts : List ℕ) (here : Present g ids handed
         (λ h.
         subst Next (sym (noted_right found (v + 1) right count h)) (
           omega arith,
-          next_fits g ids handed file v (wrong_of found) (rank_of found) (place_of found) before (all_right held product right compared_here alike (omega (arith, count_is))),
+          next_fits g ids handed file v (wrong_nodes found) (wrong_rank found) (wrong_place found) before (all_right held product right compared_here alike (omega (arith, count_is))),
         ))
-        (λ h. some_wrong (wrong_of found) refl h)
+        (λ h. some_wrong (wrong_nodes found) refl h)
         (le_or_lt count right)
 
 -- two are enough: whatever comes behind, more than one is wrong
@@ -173,7 +173,7 @@ pub all_compared :
 all_compared g ids handed file m n w r p e c = subst (λ x. Compared g ids handed file x w r p) e c
 
 -- where it isn't several, it is less than two
-pub few_wrong : (found : Found) → (found ≡ Several → ⊥) → wrong_of found < 2
+pub few_wrong : (found : Found) → (found ≡ Several → ⊥) → wrong_nodes found < 2
 few_wrong Nobody ne = omega arith
 few_wrong (One w) ne = omega arith
 few_wrong Several ne = absurd (ne refl)

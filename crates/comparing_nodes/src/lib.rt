@@ -4,7 +4,7 @@
 ghost use Rattle.std.specs.Prelude.{◌≡◌, ◌+◌, ◌≤◌, ◌<◌, length};
 ghost use Rattle.lengths.specs.Lengths.{file_letters};
 ghost use Rattle.agreement.specs.Steps.Trying.{Compared};
-ghost use Rattle.comparing_nodes.specs.Steps.Noting.{noted, wrong_of, rank_of, place_of};
+ghost use Rattle.comparing_nodes.specs.Steps.Noting.{noted, wrong_nodes, wrong_rank, wrong_place};
 
 use present::Nodes;
 
@@ -42,9 +42,9 @@ fn note(found: Found, rank: usize, right: usize, count: usize) -> Found
 
 // The rank after the first `ranks`.
 fn compare_next(nodes: &Nodes, file: &[u8], ranks: usize, found: Found) -> Found
-    requires next { (length file.now ≡ file_letters nodes.now.g) × (ranks < length nodes.now.ids.now) × (wrong_of found < 2) }
-    requires before { Compared nodes.now.g nodes.now.ids.now nodes.now.packets.now file.now ranks (wrong_of found) (rank_of found) (place_of found) }
-    ensures { (wrong_of result ≤ 2) × (Compared nodes.now.g nodes.now.ids.now nodes.now.packets.now file.now (ranks + 1) (wrong_of result) (rank_of result) (place_of result)) }
+    requires next { (length file.now ≡ file_letters nodes.now.g) × (ranks < length nodes.now.ids.now) × (wrong_nodes found < 2) }
+    requires before { Compared nodes.now.g nodes.now.ids.now nodes.now.packets.now file.now ranks (wrong_nodes found) (wrong_rank found) (wrong_place found) }
+    ensures { (wrong_nodes result ≤ 2) × (Compared nodes.now.g nodes.now.ids.now nodes.now.packets.now file.now (ranks + 1) (wrong_nodes result) (wrong_rank result) (wrong_place result)) }
 {
     let node = nodes.ids[ranks];
     let start = nodes.starts[ranks];
@@ -56,7 +56,7 @@ fn compare_next(nodes: &Nodes, file: &[u8], ranks: usize, found: Found) -> Found
 // Rank after rank.
 pub fn compare_all(nodes: &Nodes, file: &[u8]) -> Found
     requires { length file.now ≡ file_letters nodes.now.g }
-    ensures { (wrong_of result ≤ 2) × (Compared nodes.now.g nodes.now.ids.now nodes.now.packets.now file.now (length nodes.now.ids.now) (wrong_of result) (rank_of result) (place_of result)) }
+    ensures { (wrong_nodes result ≤ 2) × (Compared nodes.now.g nodes.now.ids.now nodes.now.packets.now file.now (length nodes.now.ids.now) (wrong_nodes result) (wrong_rank result) (wrong_place result)) }
 {
     let mut found = Found::Nobody;
     for v in 0..nodes.ids.len() {

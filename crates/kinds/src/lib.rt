@@ -13,6 +13,7 @@ use preview_numbers::checks as previews;
 use records::ranges;
 
 // Kinds are numbers and no enum: any byte can come where a kind stands, and what a head, a row or a test is of one that is no kind is said too (`head_in`, `row_for_kind`).
+
 // A node's packets of the repairing code, of sequences up to LONGEST_OF_KIND_ONE.
 pub const REPAIRING: usize = 1;
 

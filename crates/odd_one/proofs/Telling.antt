@@ -17,7 +17,7 @@ use Rattle.sequences.specs.Lists.{ranked}
 use Rattle.sequences.proofs.Lists.{is_run}
 use Rattle.std.specs.Prelude.{Ok, Err}
 use Rattle.comparing_nodes.specs.declared.Found.{Found}
-use Rattle.comparing_nodes.specs.Steps.Noting.{wrong_of, rank_of, place_of}
+use Rattle.comparing_nodes.specs.Steps.Noting.{wrong_nodes, wrong_rank, wrong_place}
 use Rattle.trying.specs.Searched.{Searched}
 use Rattle.odd_report.specs.declared.Standing.{Standing}
 use Rattle.odd_report.specs.declared.Standing.TheVariants.{Agreeing, Unknown}
@@ -39,11 +39,11 @@ refused_reports g ids handed before refusal r e w = go (odd_refusal g ids (lengt
     go (suc q) is = Reports.refused q is (ap check_number w.0 ∙ e ∙ is) w.1 refl
 
 -- where one is wrong, its rank is one of the ids'
-pub named_rank : (g : Group) (ids handed file : List ℕ) (found : Found) → Searched g ids handed file (wrong_of found) (rank_of found) (place_of found) → Named ids found
+pub named_rank : (g : Group) (ids handed file : List ℕ) (found : Found) → Searched g ids handed file (wrong_nodes found) (wrong_rank found) (wrong_place found) → Named ids found
 named_rank g ids handed file found s =
     record {
-      low = λ e. (one (wrong_of found) (rank_of found) (place_of found) e s).0;
-      high = λ e. (one (wrong_of found) (rank_of found) (place_of found) e s).1;
+      low = λ e. (one (wrong_nodes found) (wrong_rank found) (wrong_place found) e s).0;
+      high = λ e. (one (wrong_nodes found) (wrong_rank found) (wrong_place found) e s).1;
     }
   where
     one : (w c p : ℕ) → w ≡ 1 → Searched g ids handed file w c p → (1 ≤ c) × (c ≤ length ids)
@@ -89,17 +89,17 @@ module _ (g : Group) (ids handed : List ℕ) where
 
   -- a call that isn't refused
   module _ (before : List ℕ) (fine : odd_refusal g ids (length handed) (length before) ≡ 0) (found : Found) (r : Report)
-      (w : (r.check ≡ Ok tt) × (r.nodes ≡ nodes_where ids (standing_by (wrong_of found) (odd_id ids found) (place_of found)))) where
+      (w : (r.check ≡ Ok tt) × (r.nodes ≡ nodes_where ids (standing_by (wrong_nodes found) (odd_id ids found) (wrong_place found)))) where
     pub settled_reports :
-        (after : List ℕ) → (wrong_of found) < 2 → Searched g ids handed after (wrong_of found) (rank_of found) (place_of found) → Reports g ids handed before after r
+        (after : List ℕ) → (wrong_nodes found) < 2 → Searched g ids handed after (wrong_nodes found) (wrong_rank found) (wrong_place found) → Reports g ids handed before after r
     settled_reports after few s =
-        Reports.answered (standing_by (wrong_of found) (odd_id ids found) (place_of found)) fine (ap check_number w.0) w.1
-        (settled (wrong_of found) (rank_of found) (place_of found) after (odd_id ids found) few (λ e. odd_named ids found e) s)
+        Reports.answered (standing_by (wrong_nodes found) (odd_id ids found) (wrong_place found)) fine (ap check_number w.0) w.1
+        (settled (wrong_nodes found) (wrong_rank found) (wrong_place found) after (odd_id ids found) few (λ e. odd_named ids found e) s)
 
     pub unsettled_reports :
-        (file after : List ℕ) → 2 ≤ (wrong_of found) → Searched g ids handed file (wrong_of found) (rank_of found) (place_of found) → after ≡ zero_file g
+        (file after : List ℕ) → 2 ≤ (wrong_nodes found) → Searched g ids handed file (wrong_nodes found) (wrong_rank found) (wrong_place found) → after ≡ zero_file g
         → Reports g ids handed before after r
     unsettled_reports file after more s zeros =
-        Reports.answered (standing_by (wrong_of found) (odd_id ids found) (place_of found)) fine (ap check_number w.0) w.1
-        (subst (Shows g ids handed (standing_by (wrong_of found) (odd_id ids found) (place_of found))) (sym zeros)
-        (unsettled (wrong_of found) (rank_of found) (place_of found) file (odd_id ids found) more s))
+        Reports.answered (standing_by (wrong_nodes found) (odd_id ids found) (wrong_place found)) fine (ap check_number w.0) w.1
+        (subst (Shows g ids handed (standing_by (wrong_nodes found) (odd_id ids found) (wrong_place found))) (sym zeros)
+        (unsettled (wrong_nodes found) (wrong_rank found) (wrong_place found) file (odd_id ids found) more s))

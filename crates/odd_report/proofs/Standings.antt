@@ -15,7 +15,7 @@ use Rattle.sequences.proofs.Lists.{length_run, is_run}
 use Rattle.comparing_nodes.specs.declared.Found.{Found}
 use Rattle.comparing_nodes.specs.declared.Found.TheVariants.{Nobody, One, Several}
 use Rattle.comparing_nodes.specs.declared.Wrong.{Wrong}
-use Rattle.comparing_nodes.specs.Steps.Noting.{wrong_of, rank_of, place_of}
+use Rattle.comparing_nodes.specs.Steps.Noting.{wrong_nodes, wrong_rank, wrong_place}
 use Rattle.odd_report.specs.declared.Standing.{Standing}
 use Rattle.odd_report.specs.declared.Standing.TheVariants.{Absent, Agreeing, Unknown, Odd}
 use Rattle.odd_report.specs.declared.Node.{Node}
@@ -61,21 +61,21 @@ unfolding nodes_where
 are_nodes ids standing nodes long each = is_run (node_with Absent) 16 (λ i. node_with (standing_in ids standing i)) nodes long each
 
 -- the id of the odd one
-pub odd_named : (ids : List ℕ) (found : Found) → wrong_of found ≡ 1 → odd_id ids found ≡ ranked ids (rank_of found)
+pub odd_named : (ids : List ℕ) (found : Found) → wrong_nodes found ≡ 1 → odd_id ids found ≡ ranked ids (wrong_rank found)
 unfolding odd_id
-odd_named ids found e = simp (eq-eqb (wrong_of found) 1 e) refl
+odd_named ids found e = simp (eq-eqb (wrong_nodes found) 1 e) refl
 
-pub odd_none : (ids : List ℕ) (found : Found) → (wrong_of found ≡ 1 → ⊥) → odd_id ids found ≡ 0
+pub odd_none : (ids : List ℕ) (found : Found) → (wrong_nodes found ≡ 1 → ⊥) → odd_id ids found ≡ 0
 unfolding odd_id
-odd_none ids found ne = simp (ne_eqb (wrong_of found) 1 ne) refl
+odd_none ids found ne = simp (ne_eqb (wrong_nodes found) 1 ne) refl
 
 -- how a node that is present stands, by what was found
 module _ (ids : List ℕ) (i : ℕ) where
   abbrev pub standing_after : Found → Standing
-  standing_after found = standing_by (wrong_of found) (odd_id ids found) (place_of found) i
+  standing_after found = standing_by (wrong_nodes found) (odd_id ids found) (wrong_place found) i
 
   pub after_nobody : (found : Found) → found ≡ Nobody → standing_after found ≡ Agreeing
-  after_nobody found e = by_none _ _ _ i (ap wrong_of e)
+  after_nobody found e = by_none _ _ _ i (ap wrong_nodes e)
 
   pub after_one : (found : Found) (w : Wrong) → found ≡ One w → i ≡ ranked ids w.rank → standing_after found ≡ Odd w.place
   after_one found w e same =

@@ -1,6 +1,6 @@
 // The report.
 ghost use Rattle.std.specs.Prelude.{◌≡◌, Ok, Err};
-ghost use Rattle.comparing_nodes.specs.Steps.Noting.{wrong_of, place_of};
+ghost use Rattle.comparing_nodes.specs.Steps.Noting.{wrong_nodes, wrong_place};
 ghost use Rattle.odd_report.specs.Standings.{standing_in, nodes_where, all_absent};
 ghost use Rattle.odd_report.specs.Steps.ByCount.{standing_by, odd_id, Named};
 
@@ -32,7 +32,7 @@ pub fn refused(refusal: Refusal) -> Report
 // How a node that is present stands, after this was found.
 fn standing(node: usize, ids: &[usize], found: Found) -> Standing
     requires { Named ids.now found }
-    ensures { result ≡ standing_by (wrong_of found) (odd_id ids.now found) (place_of found) node }
+    ensures { result ≡ standing_by (wrong_nodes found) (odd_id ids.now found) (wrong_place found) node }
 {
     match found {
         Found::Nobody => Standing::Agreeing,
@@ -51,7 +51,7 @@ fn standing(node: usize, ids: &[usize], found: Found) -> Standing
 // The same for any node.
 fn standing_of(node: usize, ids: &[usize], found: Found) -> Standing
     requires { Named ids.now found }
-    ensures { result ≡ standing_in ids.now (standing_by (wrong_of found) (odd_id ids.now found) (place_of found)) node }
+    ensures { result ≡ standing_in ids.now (standing_by (wrong_nodes found) (odd_id ids.now found) (wrong_place found)) node }
 {
     if ids::is_among(node, ids) {
         return standing(node, ids, found);
@@ -62,7 +62,7 @@ fn standing_of(node: usize, ids: &[usize], found: Found) -> Standing
 // All sixteen nodes.
 fn nodes(ids: &[usize], found: Found) -> [Node; 16]
     requires { Named ids.now found }
-    ensures { result ≡ nodes_where ids.now (standing_by (wrong_of found) (odd_id ids.now found) (place_of found)) }
+    ensures { result ≡ nodes_where ids.now (standing_by (wrong_nodes found) (odd_id ids.now found) (wrong_place found)) }
 {
     let mut nodes = absent();
     for i in 0..16 {
@@ -75,7 +75,7 @@ fn nodes(ids: &[usize], found: Found) -> [Node; 16]
 // The report of what was found.
 pub fn told(ids: &[usize], found: Found) -> Report
     requires { Named ids.now found }
-    ensures { (result.check ≡ Ok tt) × (result.nodes ≡ nodes_where ids.now (standing_by (wrong_of found) (odd_id ids.now found) (place_of found))) }
+    ensures { (result.check ≡ Ok tt) × (result.nodes ≡ nodes_where ids.now (standing_by (wrong_nodes found) (odd_id ids.now found) (wrong_place found))) }
 {
     let nodes = nodes(ids, found);
     Report {

@@ -2,7 +2,7 @@
 ghost use Rattle.std.specs.Prelude.{◌≡◌, ◌≤◌, length};
 ghost use Rattle.lengths.specs.Lengths.{file_letters};
 ghost use Rattle.agreement.specs.Steps.Trying.{Tried, Compared};
-ghost use Rattle.comparing_nodes.specs.Steps.Noting.{wrong_of, rank_of, place_of};
+ghost use Rattle.comparing_nodes.specs.Steps.Noting.{wrong_nodes, wrong_rank, wrong_place};
 ghost use Rattle.trying.specs.Searched.{Searched};
 
 use comparing_nodes::Found;
@@ -12,7 +12,7 @@ use present::Nodes;
 // A try: the file that the first k+1 nodes without the one of rank `without` give back, compared with all.
 fn attempt(nodes: &Nodes, without: usize, file: &mut [u8]) -> Found
     requires { length file.old ≡ file_letters nodes.now.g }
-    ensures { (wrong_of result ≤ 2) × (Tried nodes.now.g nodes.now.ids.now nodes.now.packets.now without file.new) × (Compared nodes.now.g nodes.now.ids.now nodes.now.packets.now file.new (length nodes.now.ids.now) (wrong_of result) (rank_of result) (place_of result)) }
+    ensures { (wrong_nodes result ≤ 2) × (Tried nodes.now.g nodes.now.ids.now nodes.now.packets.now without file.new) × (Compared nodes.now.g nodes.now.ids.now nodes.now.packets.now file.new (length nodes.now.ids.now) (wrong_nodes result) (wrong_rank result) (wrong_place result)) }
 {
     collecting::collect(nodes, without, file);
     let g = nodes.g;
@@ -26,7 +26,7 @@ fn attempt(nodes: &Nodes, without: usize, file: &mut [u8]) -> Found
 pub fn search(nodes: &Nodes, file: &mut [u8]) -> Found
     requires { length file.old ≡ file_letters nodes.now.g }
     ensures length { length file.new ≡ file_letters nodes.now.g }
-    ensures found { Searched nodes.now.g nodes.now.ids.now nodes.now.packets.now file.new (wrong_of result) (rank_of result) (place_of result) }
+    ensures found { Searched nodes.now.g nodes.now.ids.now nodes.now.packets.now file.new (wrong_nodes result) (wrong_rank result) (wrong_place result) }
 {
     for without in (1..=nodes.g.k + 1).rev() {
         let found = attempt(nodes, without, file);

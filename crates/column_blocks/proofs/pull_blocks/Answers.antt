@@ -5,7 +5,7 @@ use native.Mathlib.Omega.{arith}
 use Rattle.letters.proofs.Laying.{laid_as}
 use Rattle.sums.proofs.Sums.{inside_taken, none_before_taken, sum_at_taken}
 use Rattle.column_blocks.proofs.Blocks.{ColumnsSeen, starts_none, starts_next, blocks_inside, blocks_pulled}
-use Rattle.column_runs.proofs.Pulling.{entry_of}
+use Rattle.column_runs.proofs.Pulling.{senders_entry}
 use Rattle.column_runs.proofs.Moving.{moves_rise}
 use Rattle.column_blocks.proofs.pull_blocks.Goals as goal
 
@@ -36,7 +36,7 @@ lay_within-requires c =
     let l = c.loop-before in
     let s = c in
     let last : l.before ≡ s.args.senders.now.g.d = omega arith in
-    let b = blocks_inside s.args.senders.now.g s.args.senders.now.ids.now s.args.senders.now.rows.now s.args.v s.args.w (entry_of s.args.senders.now s.args.v s.args.w (omega arith) (omega arith) (omega arith)) s.args.buffer.now s.requires.buffer.0 s.args.wide _ (1 + s.args.senders.now.g.d - s.args.v) l.starts s.requires.buffer.1 s.requires.buffer.2 (ap (λ n. n + s.args.wide) c.free_start.ensures.0) (omega arith)
+    let b = blocks_inside s.args.senders.now.g s.args.senders.now.ids.now s.args.senders.now.rows.now s.args.v s.args.w (senders_entry s.args.senders.now s.args.v s.args.w (omega arith) (omega arith) (omega arith)) s.args.buffer.now s.requires.buffer.0 s.args.wide _ (1 + s.args.senders.now.g.d - s.args.v) l.starts s.requires.buffer.1 s.requires.buffer.2 (ap (λ n. n + s.args.wide) c.free_start.ensures.0) (omega arith)
     (subst (λ m. ColumnsSeen s.args.senders.now.g s.args.senders.now.ids.now s.args.v s.args.w s.args.wide (m - s.args.v) l.starts) last l.invariant) in
     (inside_taken l.starts _ _ _ b.0, none_before_taken l.starts _ _ b.0.many b.1)
 
@@ -48,8 +48,8 @@ returns c =
     let l = c.loop-before in
     let s = c in
     let last : l.before ≡ s.args.senders.now.g.d = omega arith in
-    let b = blocks_inside s.args.senders.now.g s.args.senders.now.ids.now s.args.senders.now.rows.now s.args.v s.args.w (entry_of s.args.senders.now s.args.v s.args.w (omega arith) (omega arith) (omega arith)) s.args.buffer.now s.requires.buffer.0 s.args.wide _ (1 + s.args.senders.now.g.d - s.args.v) l.starts s.requires.buffer.1 s.requires.buffer.2 (ap (λ n. n + s.args.wide) c.free_start.ensures.0) (omega arith)
+    let b = blocks_inside s.args.senders.now.g s.args.senders.now.ids.now s.args.senders.now.rows.now s.args.v s.args.w (senders_entry s.args.senders.now s.args.v s.args.w (omega arith) (omega arith) (omega arith)) s.args.buffer.now s.requires.buffer.0 s.args.wide _ (1 + s.args.senders.now.g.d - s.args.v) l.starts s.requires.buffer.1 s.requires.buffer.2 (ap (λ n. n + s.args.wide) c.free_start.ensures.0) (omega arith)
     (subst (λ m. ColumnsSeen s.args.senders.now.g s.args.senders.now.ids.now s.args.v s.args.w s.args.wide (m - s.args.v) l.starts) last l.invariant) in
-    blocks_pulled s.args.senders.now.g s.args.senders.now.ids.now s.args.senders.now.rows.now s.args.v s.args.w (entry_of s.args.senders.now s.args.v s.args.w (omega arith) (omega arith) (omega arith)) s.args.buffer.now s.requires.buffer.0 s.args.wide _ (1 + s.args.senders.now.g.d - s.args.v) l.starts s.requires.buffer.1 s.requires.buffer.2 (ap (λ n. n + s.args.wide) c.free_start.ensures.0) (omega arith)
+    blocks_pulled s.args.senders.now.g s.args.senders.now.ids.now s.args.senders.now.rows.now s.args.v s.args.w (senders_entry s.args.senders.now s.args.v s.args.w (omega arith) (omega arith) (omega arith)) s.args.buffer.now s.requires.buffer.0 s.args.wide _ (1 + s.args.senders.now.g.d - s.args.v) l.starts s.requires.buffer.1 s.requires.buffer.2 (ap (λ n. n + s.args.wide) c.free_start.ensures.0) (omega arith)
     (subst (λ m. ColumnsSeen s.args.senders.now.g s.args.senders.now.ids.now s.args.v s.args.w s.args.wide (m - s.args.v) l.starts) last l.invariant) _
     (laid_as _ _ _ _ _ _ (λ q lo hi. sum_at_taken l.starts _ s.args.buffer.now _ b.0.many) c.lay_within.ensures)

@@ -4,7 +4,7 @@ use mathlib.Core.Path.{◌≡◌, ap}
 use Rattle.std.proofs.Common.{rules}
 use Rattle.comparing_nodes.specs.declared.Found.TheVariants.{Several}
 use Rattle.agreement.proofs.Comparing.{compared_none}
-use Rattle.comparing_nodes.specs.Steps.Noting.{wrong_of}
+use Rattle.comparing_nodes.specs.Steps.Noting.{wrong_nodes}
 use Rattle.comparing_nodes.proofs.Noting.{few_wrong, two_suffice, all_compared}
 use Rattle.comparing_nodes.proofs.compare_all.Goals as goal
 
@@ -15,7 +15,7 @@ pub returns-then-eq : goal.returns-then-eq
 returns-then-eq c =
     let r = c.compare_next-found in
     let same : r.result ≡ Several = search rules in
-    (r.ensures.0, two_suffice _ _ _ _ _ _ _ _ _ (let n = ap wrong_of same in omega arith) r.ensures.0 (omega arith) r.ensures.1)
+    (r.ensures.0, two_suffice _ _ _ _ _ _ _ _ _ (let n = ap wrong_nodes same in omega arith) r.ensures.0 (omega arith) r.ensures.1)
 
 pub loop-v-preserved : goal.loop-v-preserved
 loop-v-preserved c =

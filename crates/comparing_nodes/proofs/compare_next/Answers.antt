@@ -5,7 +5,7 @@ use Prim.Native.Nat.{◌≤◌, ◌+◌}
 use Rattle.agreement.specs.Steps.Trying.{Compared}
 use Rattle.present.proofs.Present.{few_ids, node_here}
 use Rattle.comparing_nodes.proofs.Noting.{next_end, next_inside, next_long, next_noted, right_within}
-use Rattle.comparing_nodes.specs.Steps.Noting.{wrong_of, rank_of, place_of}
+use Rattle.comparing_nodes.specs.Steps.Noting.{wrong_nodes, wrong_rank, wrong_place}
 use Rattle.comparing_nodes.proofs.compare_next.Goals as goal
 
 pub bounds-nodes-ranks-2 : goal.bounds-nodes-ranks-2
@@ -33,4 +33,4 @@ pub note-requires : goal.note-requires
 note-requires c = right_within c.args.nodes.now.g c.args.nodes.now.ids.now c.args.nodes.now.packets.now c.args.nodes.now.starts.now c.args.nodes.now.present c.args.nodes.now.placed c.args.ranks c.requires.next.1 _ c.args.found c.requires.next.2 c.requires.before _ c.right_letters-right.ensures
 
 pub returns : goal.returns
-returns c = subst (λ r. (wrong_of r ≤ 2) × Compared c.args.nodes.now.g c.args.nodes.now.ids.now c.args.nodes.now.packets.now c.args.file.now (c.args.ranks + 1) (wrong_of r) (rank_of r) (place_of r)) (sym c.note.ensures) (next_noted c.args.nodes.now.g c.args.nodes.now.ids.now c.args.nodes.now.packets.now c.args.nodes.now.starts.now c.args.nodes.now.present c.args.nodes.now.placed c.args.ranks c.requires.next.1 _ c.args.found c.requires.next.2 c.requires.before _ c.right_letters-right.ensures)
+returns c = subst (λ r. (wrong_nodes r ≤ 2) × Compared c.args.nodes.now.g c.args.nodes.now.ids.now c.args.nodes.now.packets.now c.args.file.now (c.args.ranks + 1) (wrong_nodes r) (wrong_rank r) (wrong_place r)) (sym c.note.ensures) (next_noted c.args.nodes.now.g c.args.nodes.now.ids.now c.args.nodes.now.packets.now c.args.nodes.now.starts.now c.args.nodes.now.present c.args.nodes.now.placed c.args.ranks c.requires.next.1 _ c.args.found c.requires.next.2 c.requires.before _ c.right_letters-right.ensures)

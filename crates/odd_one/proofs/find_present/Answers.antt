@@ -4,7 +4,7 @@ use mathlib.Core.Path.{◌≡◌, refl, ap}
 use Prim.Native.Nat.{◌≤◌}
 use Rattle.std.proofs.Common.{rules}
 use Rattle.comparing_nodes.specs.declared.Found.TheVariants.{Several}
-use Rattle.comparing_nodes.specs.Steps.Noting.{wrong_of}
+use Rattle.comparing_nodes.specs.Steps.Noting.{wrong_nodes}
 use Rattle.comparing_nodes.proofs.Noting.{few_wrong}
 use Rattle.odd_checks.proofs.Refusing.{chosen_here, room_here, present_here}
 use Rattle.odd_one.proofs.Telling.{named_rank, cleared, settled_reports, unsettled_reports}
@@ -29,7 +29,7 @@ returns c =
     elim c.if-eq.branch [
       | then-eq w ↦
           (let same : r.result ≡ Several = search rules in
-          let many : 2 ≤ wrong_of r.result = (let n = ap wrong_of same in omega arith) in
+          let many : 2 ≤ wrong_nodes r.result = (let n = ap wrong_nodes same in omega arith) in
           rw w.file-is (unsettled_reports _ _ _ _ c.requires r.result _ c.told.ensures _ _ many r.ensures.found
           (cleared _ _ _ r.ensures.length w.fill.ensures.len (w.fill.ensures.after (λ y e. e)))))
       | else-eq w ↦

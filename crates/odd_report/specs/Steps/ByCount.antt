@@ -2,7 +2,7 @@
 use Rattle.std.specs.Prelude.{◌≡◌, cond, List, ℕ, ◌≤◌, eqb, leb, length}
 use Rattle.sequences.specs.Lists.{ranked}
 use Rattle.comparing_nodes.specs.declared.Found.{Found}
-use Rattle.comparing_nodes.specs.Steps.Noting.{wrong_of, rank_of}
+use Rattle.comparing_nodes.specs.Steps.Noting.{wrong_nodes, wrong_rank}
 use Rattle.odd_report.specs.declared.Standing.{Standing}
 use Rattle.odd_report.specs.declared.Standing.TheVariants.{Agreeing, Unknown, Odd}
 
@@ -12,10 +12,10 @@ standing_by wrong odd place i = cond (leb 2 wrong) Unknown (cond (eqb wrong 0) A
 
 -- where one is wrong, its rank is one of the ids'
 pub record Named (ids : List ℕ) (found : Found) : Type 0 where
-  pub low : wrong_of found ≡ 1 → 1 ≤ rank_of found
-  pub high : wrong_of found ≡ 1 → rank_of found ≤ length ids
+  pub low : wrong_nodes found ≡ 1 → 1 ≤ wrong_rank found
+  pub high : wrong_nodes found ≡ 1 → wrong_rank found ≤ length ids
 
 -- its id
 unfoldable pub odd_id : List ℕ → Found → ℕ
 unfolding ranked
-odd_id ids found = cond (eqb (wrong_of found) 1) (ranked ids (rank_of found)) 0
+odd_id ids found = cond (eqb (wrong_nodes found) 1) (ranked ids (wrong_rank found)) 0

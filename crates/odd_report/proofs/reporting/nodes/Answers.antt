@@ -3,7 +3,7 @@ use native.Mathlib.Omega.{arith}
 use mathlib.Core.Path.{ap, ◌∙◌}
 use lib.ListN.{length, length-set}
 use Rattle.odd_report.specs.Standings.{standing_in}
-use Rattle.comparing_nodes.specs.Steps.Noting.{wrong_of, place_of}
+use Rattle.comparing_nodes.specs.Steps.Noting.{wrong_nodes, wrong_place}
 use Rattle.odd_report.specs.Steps.ByCount.{standing_by, odd_id}
 use Rattle.odd_report.proofs.Standings.{are_nodes, length_absent, nodes_more}
 use Rattle.odd_report.proofs.reporting.nodes.Goals as goal
@@ -14,7 +14,7 @@ loop-i-init c = (ap length c.absent-nodes.ensures ∙ length_absent, λ q h. abs
 pub loop-i-preserved : goal.loop-i-preserved
 loop-i-preserved c =
     let l = c.loop-i in
-    (simp length-set l.invariant.0, nodes_more (standing_in c.args.ids.now (standing_by (wrong_of c.args.found) (odd_id c.args.ids.now c.args.found) (place_of c.args.found))) l.nodes l.i _ (omega (arith, l.invariant.0)) c.standing_of-standing.ensures l.invariant.1)
+    (simp length-set l.invariant.0, nodes_more (standing_in c.args.ids.now (standing_by (wrong_nodes c.args.found) (odd_id c.args.ids.now c.args.found) (wrong_place c.args.found))) l.nodes l.i _ (omega (arith, l.invariant.0)) c.standing_of-standing.ensures l.invariant.1)
 
 pub returns : goal.returns
 returns c =

@@ -5,7 +5,7 @@ use Prim.Native.Nat.{◌≤◌}
 use Rattle.std.proofs.Common.{rules}
 use Rattle.comparing_nodes.specs.declared.Found.TheVariants.{Several}
 use Rattle.comparing_nodes.proofs.Noting.{few_wrong}
-use Rattle.comparing_nodes.specs.Steps.Noting.{wrong_of}
+use Rattle.comparing_nodes.specs.Steps.Noting.{wrong_nodes}
 use Rattle.trying.proofs.Searching.{AllFailed, settles, none_tried, failed_too, none_settles}
 use Rattle.trying.proofs.search.search.Goals as goal
 
@@ -25,7 +25,7 @@ pub loop-without-preserved : goal.loop-without-preserved
 loop-without-preserved c =
     let r = c.attempt-found in
     let same : r.result ≡ Several = search rules in
-    let many : 2 ≤ wrong_of r.result = (let n = ap wrong_of same in omega arith) in
+    let many : 2 ≤ wrong_nodes r.result = (let n = ap wrong_nodes same in omega arith) in
     (r.ensures.1.long, λ here. failed_too _ _ _ here c.loop-without.without _ _ _ _ (omega arith) many r.ensures.0 r.ensures.1 r.ensures.2 (c.loop-without.invariant.1 here))
 
 pub returns : goal.returns
