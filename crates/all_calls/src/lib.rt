@@ -13,6 +13,7 @@ fn called(
     from: &mut [u8],
     into: &mut [u8],
 ) -> Arriving {
+    // By the number: it is what a script has (docs/SCRIPTS.md), ten of them for each library.
     let operation = line.operation;
     if operation < 20 {
         calls::call(line, found, from, into);

@@ -24,6 +24,7 @@ fn aside(forged: Arriving, from: &[u8]) -> Arriving {
 // 31 hands A's slice over from the start, 32 goes on with it, and 33 hands it over in bursts of a size. 34 sets a word. The others are told
 // and not kept: 35 sets a word and goes on with A's slice, 36 cuts A's slice everywhere.
 fn done(line: Line, state: Arriving, from: &[u8]) -> Arriving {
+    // By the number: it is what a script has (docs/SCRIPTS.md).
     match line.operation {
         31 => Arriving::start().after(from),
         32 => state.after(from),

@@ -22,7 +22,7 @@ fn state(node: Node) -> usize
     }
 }
 
-// The place of its first wrong letter, 0 where it isn't odd.
+// The place of its first wrong letter, 0 where it isn't odd: C has no Option.
 fn place(node: Node) -> usize
     ensures { result ≡ place_number node.standing }
 {

@@ -44,7 +44,7 @@ pub fn call(line: &[u8], l: usize, memory: &[u8], made: &mut [u8]) -> usize {
     called(line, group::of(3, 2, 2, l), a, b, from, made)
 }
 
-// The index of the first byte that can't stand, where a line judges bytes; else 0.
+// The index of the first byte that can't stand, where a line judges bytes; else 0, which a line without a second `=` asks for.
 pub fn place(line: &[u8], memory: &[u8]) -> usize {
     match task_of(line) {
         Task::Judge => judged_words::place(share::judge(marks::handed(line, memory))),

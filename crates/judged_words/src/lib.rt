@@ -16,7 +16,7 @@ pub fn number(judgment: Result<Head, Fault>) -> usize {
     }
 }
 
-// The place; 0 where there is none.
+// The place; 0 where there is none, as scripts and texts ask for it.
 pub fn place(judgment: Result<Head, Fault>) -> usize {
     match judgment {
         Err(Fault::Malformed(_, at)) => at,

@@ -139,7 +139,7 @@ pub fn check(kind: usize, g: Group, node: usize) -> Result<(), Refusal>
     }
 }
 
-// T, the letters of a share with these numbers; 0 where they are out of range, or where this is no kind.
+// T, the letters of a share with these numbers; 0 where they are out of range, or where this is no kind, as `row_total` has it.
 pub fn total(kind: usize, g: Group, node: usize) -> usize
     ensures { result ≡ row_total (row_for_kind kind) g node }
 {

@@ -24,7 +24,7 @@ pub fn put(into: &mut [u8], at: usize, run: &[u8]) {
     }
 }
 
-// 0 where two slices are the same, and 1 where they aren't.
+// 0 where two slices are the same, and 1 where they aren't: the number picks one of a text's words.
 pub fn differ(a: &[u8], b: &[u8]) -> usize {
     usize::from(a != b)
 }

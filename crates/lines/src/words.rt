@@ -1,4 +1,5 @@
-// Words, numbers and letters on standard output.
+// Words, numbers and letters on standard output, by the kit's `io`, which asks for no handle: by the runtime's `print!` every function of the test programs that writes would take one
+// (as those of `verdict_runs` do).
 use group::Refusal;
 
 // Standard output's descriptor.

@@ -22,7 +22,7 @@ fn value(behind: &[u8]) -> u8 {
     }
 }
 
-// The decimal number behind the mark that stands n after the first of its kind; 0 where there is none.
+// The decimal number behind the mark that stands n after the first of its kind; 0 where there is none, as for a mark without digits.
 pub fn number(line: &[u8], mark: u8, n: usize) -> usize {
     let mut behind = line.split(|byte| *byte == mark).skip(1);
     let value = usize::from(value(behind.nth(n).unwrap_or(&[])));

@@ -2,7 +2,7 @@
 use group::Refusal;
 use odd_one::{Node, Report, Standing};
 
-// The number of the refusal; 0 where there is none.
+// The number of the refusal; 0 where there is none, as the table has it.
 fn number(check: Result<(), Refusal>) -> usize {
     match check {
         Ok(()) => 0,

@@ -11,6 +11,7 @@ fn encode(line: Line, from: &[u8], into: &mut [u8]) {
 
 // 20 looks for the odd one of some nodes; any other line encodes.
 fn call(line: Line, found: &[usize; 32], from: &mut [u8], into: &mut [u8]) {
+    // By the number: it is what a script has (docs/SCRIPTS.md).
     if line.operation == 20 {
         odd_calls::call(line, found, from, into);
     } else {
