@@ -29,5 +29,5 @@ pub fn sum_up(part: &mut [u8], start: usize, count: usize, stride: usize)
     requires { (1 ≤ stride) × (start + count ≤ length part.old) }
     ensures { RunSummed start count stride part.old part.new }
 {
-    dividing::divide(part, start, count, stride);
+    dividing::divide(&mut part[start..start + count], stride);
 }
