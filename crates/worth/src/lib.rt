@@ -30,6 +30,7 @@ pub fn add_run(into: &mut [u8], at: usize, run: &[u8]) -> usize
 // Adds `count` letters of `buffer` that start at index `from` into the earlier letters that start at index `to`.
 // Every other letter stays as it was. The answer is how many of the letters that were added aren't zero.
 // The two runs must not overlap, and must fit: to + count <= from and from + count <= buffer.len().
+// (Indices and a count, no slices: both are runs of one buffer, and the contract says what the whole of it then holds.)
 pub fn add_within(buffer: &mut [u8], to: usize, from: usize, count: usize) -> usize
     requires { (to + count ≤ from) × (from + count ≤ length buffer.old) }
     ensures letters { buffer.new ≡ added xors buffer.old to (take count (drop from buffer.old)) }
