@@ -9,6 +9,7 @@ ghost use Rattle.letters.specs.Steps.Rests.{widest_block, left_over};
 pub const WIDEST: usize = 128;
 
 // The `count` letters that start at index `start`, at the front of a block.
+// (A start and a count beside the buffer, here and below: `added` says what the whole of `into` then holds, and `adding_within` takes a block from the buffer that it adds to.)
 pub fn taken(from: &[u8], start: usize, count: usize) -> [u8; WIDEST]
     requires { (count ≤ widest_block) × (start + count ≤ length from.now) }
     ensures { take count result ≡ take count (drop start from.now) }

@@ -37,5 +37,5 @@ pub extern "C" fn bench_count(from: &[u8], start: usize, count: usize) -> usize
     requires { start + count ≤ length from.now }
     ensures { result ≡ worth_in from.now start count }
 {
-    worth::count(from, start, count)
+    worth::count(&from[start..start + count])
 }

@@ -9,6 +9,7 @@ use letters::moving;
 use records::sizes;
 
 // The full blocks: each is its kind and its letters.
+// (The head's size beside the share, here and below: the contract says what each byte of the whole share is.)
 pub fn put_full_blocks(front: usize, packets: &[u8], share: &mut [u8])
     requires { (length packets.now < total_limit) × (length share.old ≡ size_for front (length packets.now)) }
     ensures { Laid share.old share.new front (front + length packets.now / block_letters * block_size) (blocks_byte front packets.now) }

@@ -38,7 +38,7 @@ fn of_sequence(part: &[u8], start: usize, n: usize, rows: &[usize], s: usize, a:
     requires { (Rows s rows.now) × (n ≤ 2 ^ 32) × (start + n ≤ length part.now) × (1 ≤ a) × (a ≤ s) }
     ensures { (result ≡ others_terms part.now start n rows.now s a) × (result ≤ 16 * 2 ^ 32) }
 {
-    let whole = worth::count(part, start, n);
+    let whole = worth::count(&part[start..start + n]);
     let run = Run {
         buffer: part,
         start,
@@ -94,7 +94,7 @@ impl Run<'_> {
         if self.n <= outside {
             return 0;
         }
-        self.whole - worth::count(self.buffer, self.start, outside)
+        self.whole - worth::count(&self.buffer[self.start..self.start + outside])
     }
 
     // Without its last `outside` letters.
@@ -104,6 +104,7 @@ impl Run<'_> {
         if self.n <= outside {
             return 0;
         }
-        self.whole - worth::count(self.buffer, self.start + (self.n - outside), outside)
+        let kept = self.start + (self.n - outside);
+        self.whole - worth::count(&self.buffer[kept..kept + outside])
     }
 }

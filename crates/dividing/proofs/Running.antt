@@ -71,18 +71,18 @@ summed_block xs ys to from width end w stride narrow e fits step =
 
 -- 1 / (1 + D^w) is (1 + D^w) / (1 + D^2w): what sums the product at the stride 2w sums the run at the stride w
 module _
-    (xs ys zs : List ℕ) (start w end : ℕ) (some : 0 < w) (l : Laid xs ys (start + w) end (plus_from xs (start + w) start))
-    (s : RunningSum ys zs (start + (w + w)) end (w + w)) where
-  kept : (p : ℕ) → p < start + w → get_or zs p 0 ≡ get_or xs p 0
+    (xs ys zs : List ℕ) (w end : ℕ) (some : 0 < w) (l : Laid xs ys w end (plus_from xs w 0))
+    (s : RunningSum ys zs (w + w) end (w + w)) where
+  kept : (p : ℕ) → p < w → get_or zs p 0 ≡ get_or xs p 0
   kept p h = s.before p (omega arith) ∙ l.before p h
 
-  product : (p : ℕ) → start + w ≤ p → p < end → get_or ys p 0 ≡ bit_xor (get_or xs p 0) (get_or xs (p - w) 0)
+  product : (p : ℕ) → w ≤ p → p < end → get_or ys p 0 ≡ bit_xor (get_or xs p 0) (get_or xs (p - w) 0)
   product p lo hi = l.laid p lo hi ∙ ap (λ q. bit_xor (get_or xs p 0) (get_or xs q 0)) (back p lo)
     where
-      back : (p : ℕ) → start + w ≤ p → start + (p - (start + w)) ≡ p - w
+      back : (p : ℕ) → w ≤ p → 0 + (p - w) ≡ p - w
       back p lo = omega arith
 
-  once : (k p : ℕ) → p < k → start + w ≤ p → p < end → get_or zs p 0 ≡ bit_xor (get_or xs p 0) (get_or zs (p - w) 0)
+  once : (k p : ℕ) → p < k → w ≤ p → p < end → get_or zs p 0 ≡ bit_xor (get_or xs p 0) (get_or zs (p - w) 0)
   once zero p h lo hi = absurd (omega arith)
   once (suc k) p h lo hi =
       ⊎_elim
@@ -93,12 +93,12 @@ module _
       ∙ ap (bit_xor (get_or xs p 0))
       (sym (once k (p - w) (omega arith) (omega arith) (omega arith) ∙ ap (λ q. bit_xor (get_or xs (p - w) 0) (get_or zs q 0)) (twice p))))
       (λ near. s.before p near ∙ product p lo hi ∙ ap (bit_xor (get_or xs p 0)) (sym (kept (p - w) (omega arith))))
-      (le_or_lt (start + (w + w)) p)
+      (le_or_lt (w + w) p)
     where
       twice : (p : ℕ) → p - w - w ≡ p - (w + w)
       twice p = omega arith
 
-  pub summed_doubled : start + w ≤ end → RunningSum xs zs (start + w) end w
+  pub summed_doubled : w ≤ end → RunningSum xs zs w end w
   summed_doubled order =
       record {
         same_length = s.same_length ∙ l.same_length;

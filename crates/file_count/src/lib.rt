@@ -50,7 +50,7 @@ fn of_entry(senders: &Senders, u: usize, s: usize, v: usize, file: &[u8]) -> usi
         buffer: file,
         start,
         n: g.l,
-        whole: worth::count(file, start, g.l),
+        whole: worth::count(&file[start..start + g.l]),
     };
     let solving = run.of_others(senders.rows, s, v);
     solving + of_takings(senders, u, v, &run)

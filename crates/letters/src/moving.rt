@@ -3,6 +3,7 @@ ghost use Rattle.std.specs.Prelude.{◌+◌, ◌-◌, ◌≤◌, length, get_or}
 ghost use Rattle.letters.specs.Laid.{Laid};
 
 // Copies `count` letters that start at index `start` of `from` to index `at` of `to`, whose other letters stay as they were.
+// (Indices and a count, no slices: the contract says what the whole of `to` then holds.)
 pub fn copy(from: &[u8], start: usize, to: &mut [u8], at: usize, count: usize)
     requires { (start + count ≤ length from.now) × (at + count ≤ length to.old) }
     ensures { Laid to.old to.new at (at + count) (λ p. get_or from.now (start + (p - at)) 0) }

@@ -1,11 +1,14 @@
 -- What is laid into a buffer, said of one run of it: its places count from 1, and what lies before it is nothing.
 use native.Mathlib.Omega.{arith}
 use mathlib.Core.Path.{◌≡◌, refl, sym, ap, ap₂, ◌∙◌}
-use mathlib.Core.List.{List}
+use mathlib.Core.List.{List, ◌++◌}
 use mathlib.Core.Logic.{⊎_elim}
 use Prim.Native.Nat.{ℕ, ◌+◌, ◌-◌, ◌≤◌, ◌<◌}
 use lib.Bits.{bit_xor, xor_zero_r}
-use lib.ListN.{get_or}
+use lib.ListN.{length, get_or, take, drop, length-append, length-drop, length-take, get_or-append}
+use lib.Seq.{get_or-take, get_or-drop, get_or-append-add, length-take-le}
+use borrow.Rule.Slice.PartMut.{put_mid, post_of, Post-is}
+use Rattle.std.proofs.lemmas.Slice.{drop-put_mid}
 use Rattle.letters.specs.Laid.{Laid}
 use Rattle.letters.specs.Places.{letter}
 use Rattle.letters.proofs.Cases.{le_or_lt}
@@ -84,3 +87,87 @@ running_summed start m w xs ys some s =
 
     place : (p : ℕ) → w < p → start + (p - 1) - w ≡ start + (p - w - 1)
     place p late = omega arith
+
+-- a running sum of the run alone, lent as a slice of its own and back in its place, is one within the buffer
+module _
+    (start e w : ℕ) (xs ys : List ℕ) (order : start ≤ e) (fits : e ≤ length xs)
+    (s : RunningSum (take (e - start) (drop start xs)) ys w (length (take (e - start) (drop start xs))) w) where
+  back : List ℕ
+  back = put_mid start (e - start) xs ys
+
+  size : length (take (e - start) (drop start xs)) ≡ e - start
+  size = omega (arith, length-take (e - start) (drop start xs), length-drop start xs)
+
+  long : length ys ≡ e - start
+  long = s.same_length ∙ size
+
+  front : length (take start xs) ≡ start
+  front = length-take-le start xs (omega arith)
+
+  same_length : length back ≡ length xs
+  unfolding back
+  same_length =
+      ap (λ z. length (take start xs ++ (ys ++ z))) (Post-is start e xs order)
+      ∙ length-append (take start xs) (ys ++ drop e xs)
+      ∙ omega (arith, front, length-append ys (drop e xs), length-drop e xs, long)
+
+  outside_before : (p : ℕ) → p < start → get_or back p 0 ≡ get_or xs p 0
+  unfolding back
+  outside_before p h =
+      get_or-append (take start xs) (ys ++ post_of start (e - start) xs) 0 p (omega (arith, front)) ∙ get_or-take start xs p 0 h
+
+  inside : (q : ℕ) → q < e - start → get_or back (start + q) 0 ≡ get_or ys q 0
+  unfolding back
+  inside q h =
+      ap (λ n. get_or back (n + q) 0) (sym front)
+      ∙ get_or-append-add (take start xs) (ys ++ post_of start (e - start) xs) q 0
+      ∙ get_or-append ys (post_of start (e - start) xs) 0 q (omega (arith, long))
+
+  outside_after : (p : ℕ) → e ≤ p → get_or back p 0 ≡ get_or xs p 0
+  unfolding back
+  outside_after p h =
+      ap (λ n. get_or back n 0) (sym (there p h))
+      ∙ sym (get_or-drop e back (p - e) 0)
+      ∙ ap (λ l. get_or l (p - e) 0) (drop-put_mid start (e - start) xs ys e (omega arith) (omega arith) long)
+      ∙ get_or-drop e xs (p - e) 0
+      ∙ ap (λ n. get_or xs n 0) (there p h)
+    where
+      there : (p : ℕ) → e ≤ p → e + (p - e) ≡ p
+      there p h = omega arith
+
+  at : (p : ℕ) → start ≤ p → start + (p - start) ≡ p
+  at p lo = omega arith
+
+  came : (p : ℕ) → start ≤ p → p < e → get_or (take (e - start) (drop start xs)) (p - start) 0 ≡ get_or xs p 0
+  came p lo hi =
+      get_or-take (e - start) (drop start xs) (p - start) 0 (omega arith) ∙ get_or-drop start xs (p - start) 0 ∙ ap (λ n. get_or xs n 0) (at p lo)
+
+  becomes : (p : ℕ) → start ≤ p → p < e → get_or back p 0 ≡ get_or ys (p - start) 0
+  becomes p lo hi = ap (λ n. get_or back n 0) (sym (at p lo)) ∙ inside (p - start) (omega arith)
+
+  pub lent_summed : RunningSum xs (put_mid start (e - start) xs ys) (start + w) e w
+  unfolding back
+  lent_summed =
+      record {
+        same_length = same_length;
+        before =
+            λ p h.
+            ⊎_elim
+            (λ within.
+            ⊎_elim
+            (λ past. outside_after p past)
+            (λ in_run. becomes p within in_run ∙ s.before (p - start) (omega arith) ∙ came p within in_run)
+            (le_or_lt e p))
+            (λ early. outside_before p early)
+            (le_or_lt start p);
+        summed =
+            λ p lo hi.
+            becomes p (omega arith) hi
+            ∙ s.summed (p - start) (omega arith) (omega (arith, size))
+            ∙ ap₂ bit_xor (came p (omega arith) hi)
+            (ap (λ n. get_or ys n 0) (stride p lo) ∙ sym (becomes (p - w) (omega arith) (omega arith)));
+        after = λ p h. outside_after p h;
+      }
+    where
+      stride : (p : ℕ) → start + w ≤ p → p - start - w ≡ p - w - start
+      stride p lo = omega arith

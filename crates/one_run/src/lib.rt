@@ -5,6 +5,7 @@ ghost use Rattle.std.specs.Prelude.{◌+◌, ◌≤◌, length};
 ghost use Rattle.one_run.specs.Steps.Runs.{RunAdded, RunSummed};
 
 // Adds to the run of `count` letters at index `to` the one at index `from`, which ends before it, moved right by `moved`.
+// (Indices and a count, no slices: both are runs of one buffer.)
 pub fn add_earlier(part: &mut [u8], to: usize, from: usize, moved: usize, count: usize)
     requires { (from + count ≤ to) × (to + count ≤ length part.old) }
     ensures { RunAdded to from count moved part.old part.new }
@@ -29,5 +30,5 @@ pub fn sum_up(part: &mut [u8], start: usize, count: usize, stride: usize)
     requires { (1 ≤ stride) × (start + count ≤ length part.old) }
     ensures { RunSummed start count stride part.old part.new }
 {
-    dividing::divide(part, start, count, stride);
+    dividing::divide(&mut part[start..start + count], stride);
 }

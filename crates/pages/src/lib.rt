@@ -8,6 +8,7 @@ ghost use Rattle.std.specs.Prelude.{◌≤◌, length};
 const STDIN: i32 = 0;
 
 // Reads on behind the first `kept` bytes, until the room is full or the input ends. The answer is how many bytes are there then.
+// (A count beside the room, here and below: behind the bytes of the page there is room, which the next call reads into.)
 pub fn more(room: &mut [u8], kept: usize) -> usize
     requires { kept ≤ length room.old }
     ensures { result ≤ length room.old }

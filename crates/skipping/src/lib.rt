@@ -29,6 +29,7 @@ pub fn letters_after(letters: usize, nth: usize, offset: usize) -> usize
 }
 
 // The index of the first byte from `at` on that isn't zero, or `end`.
+// (An index beside the share, here and below: what is answered is an index of the whole share, which goes on from there.)
 fn past_zeros(share: &[u8], at: usize, end: usize) -> usize
     requires { (at ≤ end) × (end ≤ length share.now) }
     ensures { ZerosTo share.now at end result }

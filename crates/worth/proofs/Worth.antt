@@ -3,8 +3,9 @@ use mathlib.Core.Path.{◌≡◌, ap, ◌∙◌}
 use mathlib.Core.List.{List}
 use mathlib.Core.Logic.{⊎_elim}
 use Prim.Native.Nat.{ℕ, ◌+◌, ◌-◌, ◌≤◌}
+use native.Mathlib.Nat.{zero-add}
 use native.Mathlib.Omega.{arith}
-use lib.ListN.{get_or}
+use Rattle.std.proofs.Common.{take, drop, length, get_or, get_or-take, get_or-drop, length-take, length-drop}
 use borrow.Author.Tests.{eq-eqb, ne_eqb}
 use Rattle.letters.specs.Algebra.{counts, sum}
 use Rattle.letters.proofs.Cases.{eq_or_ne}
@@ -47,3 +48,21 @@ module _ (xs : List ℕ) (start : ℕ) where
     where
       place : (i : ℕ) → 1 ≤ i → start + (n + i - 1) ≡ start + n + (i - 1)
       place i lo = omega arith
+
+-- a run that is lent as a slice of its own, from index s up to index e, is worth what it is worth where it stands
+module _ (xs : List ℕ) (s n e : ℕ) (ends : e ≡ s + n) (inside : e ≤ length xs) where
+  pub slice_size : length (take (e - s) (drop s xs)) ≡ n
+  slice_size = omega (arith, length-take (e - s) (drop s xs), length-drop s xs)
+
+  pub worth_of_slice : worth_in (take (e - s) (drop s xs)) 0 (length (take (e - s) (drop s xs))) ≡ worth_in xs s n
+  unfolding worth_in
+  worth_of_slice =
+      ap (λ m. sum counts m (λ p. worth_of (get_or (take (e - s) (drop s xs)) (0 + (p - 1)) 0))) slice_size
+      ∙ sum_same counts n (λ p. worth_of (get_or (take (e - s) (drop s xs)) (0 + (p - 1)) 0)) (λ p. worth_of (get_or xs (s + (p - 1)) 0))
+      (λ p lo hi. ap worth_of (same p lo hi))
+    where
+      same : (p : ℕ) → 1 ≤ p → p ≤ n → get_or (take (e - s) (drop s xs)) (0 + (p - 1)) 0 ≡ get_or xs (s + (p - 1)) 0
+      same p lo hi =
+          get_or-take (e - s) (drop s xs) (0 + (p - 1)) 0 (omega arith)
+          ∙ get_or-drop s xs (0 + (p - 1)) 0
+          ∙ ap (λ i. get_or xs (s + i) 0) (zero-add (p - 1))

@@ -6,56 +6,56 @@ ghost use Rattle.worth.specs.Steps.Zeros.{Zeros};
 
 use adding::eights;
 
-// Those of `count` letters that start at index `start`, no more than a byte can count.
-fn in_few(from: &[u8], start: usize, count: usize) -> usize
-    requires { (count ≤ 255) × (start + count ≤ length from.now) }
-    ensures { Zeros from.now start count result }
+// All of them, of letters that are no more than a byte can count.
+fn in_few(letters: &[u8]) -> usize
+    requires { length letters.now ≤ 255 }
+    ensures { Zeros letters.now 0 (length letters.now) result }
 {
     let mut zeros: u8 = 0;
-    for i in 0..count {
-        if from[start + i] == 0 {
+    for letter in letters {
+        if *letter == 0 {
             zeros += 1;
         }
     }
     usize::from(zeros)
 }
 
-// Of the run, `zeros` are among the letters that blocks of `width` leave over. The answer is how many there are among those that blocks twice as wide leave over:
+// Of the letters, `zeros` are among those that blocks of `width` leave over. The answer is how many there are among those that blocks twice as wide leave over:
 // as many letters, or a block more.
-fn in_rest(from: &[u8], start: usize, count: usize, width: usize, zeros: usize) -> usize
+fn in_rest(letters: &[u8], width: usize, zeros: usize) -> usize
     requires width { (0 < width) × (width ≤ widest_block) }
-    requires run { start + count ≤ length from.now }
-    requires zeros { Zeros from.now start (left_over count width) zeros }
-    ensures { Zeros from.now start (left_over count (width + width)) result }
+    requires zeros { Zeros letters.now 0 (left_over (length letters.now) width) zeros }
+    ensures { Zeros letters.now 0 (left_over (length letters.now) (width + width)) result }
 {
+    let count = letters.len();
     if count % (width + width) < width {
         return zeros;
     }
-    zeros + in_few(from, start + count % width, width)
+    let first = count % width;
+    zeros + in_few(&letters[first..first + width])
 }
 
 // Those among the letters that the widest blocks leave over.
-pub fn in_rests(from: &[u8], start: usize, count: usize) -> usize
-    requires { start + count ≤ length from.now }
-    ensures { Zeros from.now start (left_over count widest_block) result }
+pub fn in_rests(letters: &[u8]) -> usize
+    ensures { Zeros letters.now 0 (left_over (length letters.now) widest_block) result }
 {
-    let mut zeros = in_few(from, start, count % 8);
-    zeros = in_rest(from, start, count, 8, zeros);
-    zeros = in_rest(from, start, count, 16, zeros);
-    zeros = in_rest(from, start, count, 32, zeros);
-    in_rest(from, start, count, 64, zeros)
+    let mut zeros = in_few(&letters[..letters.len() % 8]);
+    zeros = in_rest(letters, 8, zeros);
+    zeros = in_rest(letters, 16, zeros);
+    zeros = in_rest(letters, 32, zeros);
+    in_rest(letters, 64, zeros)
 }
 
 // All of them, where `rests` are among the letters that the widest blocks leave over.
-pub fn in_blocks(from: &[u8], start: usize, count: usize, rests: usize) -> usize
-    requires run { start + count ≤ length from.now }
-    requires rests { Zeros from.now start (left_over count widest_block) rests }
-    ensures { Zeros from.now start count result }
+pub fn in_blocks(letters: &[u8], rests: usize) -> usize
+    requires { Zeros letters.now 0 (left_over (length letters.now) widest_block) rests }
+    ensures { Zeros letters.now 0 (length letters.now) result }
 {
     let mut zeros = rests;
-    let first = start + count % eights::WIDEST;
-    for b in 0..count / eights::WIDEST {
-        zeros += in_few(from, first + b * eights::WIDEST, eights::WIDEST);
+    let first = letters.len() % eights::WIDEST;
+    for b in 0..letters.len() / eights::WIDEST {
+        let at = first + b * eights::WIDEST;
+        zeros += in_few(&letters[at..at + eights::WIDEST]);
     }
     zeros
 }

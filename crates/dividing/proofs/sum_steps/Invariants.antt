@@ -10,8 +10,8 @@ abbrev pub invariant-loop-i : goal.invariant-loop-i
 invariant-loop-i l =
     (l.i ≤ l.count)
     × (l.i % step ≡ l.count % step)
-    × (length l.part ≡ length l.initial.part)
-    × RunningSum l.initial.part l.part l.to (l.to + l.i) (l.to - l.from)
+    × (length l.run ≡ length l.initial.run)
+    × RunningSum l.initial.run l.run (l.w + l.from) (l.w + l.from + l.i) l.w
 
 abbrev pub decreases-loop-i : goal.decreases-loop-i
 decreases-loop-i l = l.count - l.i

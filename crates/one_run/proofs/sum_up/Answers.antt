@@ -1,6 +1,10 @@
--- `one_run::sum_up` meets its contract: a running sum past the first stride is one of the whole run.
-use Rattle.one_run.proofs.OneRun.{running_summed}
+-- `one_run::sum_up` meets its contract: the run is lent as a slice of its own, and a running sum past the first stride is one of the whole run.
+use native.Mathlib.Omega.{arith}
+use Prim.Native.Nat.{◌+◌}
+use Rattle.one_run.proofs.OneRun.{lent_summed, running_summed}
 use Rattle.one_run.proofs.sum_up.Goals as goal
 
 pub returns : goal.returns
-returns c = running_summed _ _ _ _ _ c.requires.0 c.divide.ensures
+returns c =
+    let a = c.args in
+    running_summed a.start a.count a.stride _ _ c.requires.0 (lent_summed a.start (a.start + a.count) a.stride a.part.now _ (omega arith) c.requires.1 c.divide.ensures)

@@ -1,18 +1,27 @@
 -- `Run::but_last` meets its contract: the last letters are counted by themselves and taken off.
-use Prim.Native.Nat.{◌-◌, ◌≤◌}
+use mathlib.Core.Path.{◌≡◌, refl, ◌∙◌}
+use Prim.Native.Nat.{◌+◌, ◌-◌, ◌≤◌}
 use native.Mathlib.Omega.{arith}
+use Rattle.worth.specs.Worth.{worth_in}
+use Rattle.worth.proofs.Worth.{worth_of_slice}
 use Rattle.counting.proofs.Taken.{part_of_whole, left_rest}
 use Rattle.counting.proofs.Run.but_last.Goals.{After-count}
 use Rattle.counting.proofs.Run.but_last.Goals as goal
 
+outer : (c : After-count) → c.count.result ≡ worth_in c.args.self.now.buffer.now (c.args.self.now.start + (c.args.self.now.n - c.args.outside)) c.args.outside
+outer c =
+    let r = c.args.self.now in
+    c.count.ensures ∙ worth_of_slice r.buffer.now (r.start + (r.n - c.args.outside)) c.args.outside _ refl (omega (arith, r.counted.fits))
+
 few : (c : After-count) → c.count.result ≤ c.args.self.now.whole
 few c =
     let r = c.args.self.now in
-    omega (arith, c.count.ensures, part_of_whole _ _ _ _ c.args.outside r.counted (r.n - c.args.outside) (omega arith))
+    omega (arith, outer c, part_of_whole _ _ _ _ c.args.outside r.counted (r.n - c.args.outside) (omega arith))
 
 pub overflow_sub-result : goal.overflow_sub-result
 overflow_sub-result c = few (goal.at.overflow_sub-result c).After-count
 
 pub returns : goal.returns
 returns c =
-    left_rest _ _ _ _ c.args.outside c.args.self.now.counted _ c.count.result (omega arith) c.count.ensures (few (goal.at.returns c).After-count)
+    let after = (goal.at.returns c).After-count in
+    left_rest _ _ _ _ c.args.outside c.args.self.now.counted _ c.count.result (omega arith) (outer after) (few after)

@@ -2,5 +2,5 @@
 use Rattle.worth.specs.Steps.Zeros.{Zeros}
 use Rattle.worth.proofs.zeros.in_few.Given as goal
 
-abbrev pub invariant-loop-i : goal.invariant-loop-i
-invariant-loop-i l = Zeros l.from l.start l.i l.zeros
+abbrev pub invariant-loop-letter : goal.invariant-loop-letter
+invariant-loop-letter l = Zeros l.letters 0 l.letter-index l.zeros
