@@ -9,7 +9,7 @@ ghost use Rattle.matrix.specs.Matrix.{entry_start, matrix, packet, packets as pr
 ghost use Rattle.sequences.specs.Steps.Windows.{Adds, Zeros};
 
 use matrix::encoding::Encoding;
-use matrix::entries;
+use matrix::entries::{self, Column};
 use sequences::windows;
 
 // The d packets, one after another: cleared, and then each entry added.
@@ -33,11 +33,12 @@ fn add_packet(encoding: &Encoding, column: usize, letters: &mut [u8])
     ensures { letters.new ≡ packet xors encoding.now.g encoding.now.file.now encoding.now.node column }
 {
     let g = encoding.g;
+    let of = Column { g, column };
     let mut start = entries::free_start(g, 1, column);
     for above in 0..g.d {
         let row = above + 1;
         add_entry(encoding, column, row, start, letters);
-        start = entries::next_start(g, row, column, start);
+        start = of.next_start(row, start);
     }
 }
 

@@ -16,6 +16,7 @@ ghost use Rattle.arriving.specs.Calls.{Takes, JudgesState, GoodBytesOf, Announce
 use group::Refusal;
 use heads::{Head, bytes as head_bytes};
 use judging::Fault;
+use reaching::Begun;
 use records::sizes;
 
 // The last batch number.
@@ -186,13 +187,14 @@ impl Arriving {
         }
         let at = self.at;
         let head = self.head_so_far();
-        let with = reaching::head_with(head, at, bytes);
+        let begun = Begun { head, at };
+        let with = begun.head_with(bytes);
         let good = searching::first_wrong(bytes, at, with, head_bytes::total(with));
         let end = at + good;
         if good == bytes.len() {
             return state_with(end, 0, with);
         }
-        let before = reaching::head_with(head, at, &bytes[..good]);
+        let before = begun.head_with(&bytes[..good]);
         wrong_at(before, end)
     }
 

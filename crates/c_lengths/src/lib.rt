@@ -7,6 +7,7 @@ ghost use Rattle.group.specs.Ranges.{group_of};
 ghost use Rattle.c_answers.specs.Exports.{Tells};
 
 // The letters of a file, B*L. Refusals: 1, 2.
+// C hands numbers over one by one.
 #[unsafe(no_mangle)]
 pub extern "C" fn dulvaspen_file_letters(
     n: usize,

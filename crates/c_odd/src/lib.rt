@@ -66,6 +66,7 @@ fn tell(g: Group, ids: &[usize], packets: &[u8], file: &mut [u8], report: &mut [
 }
 
 // Says of each node whether it agrees with the others. Refusals: 1, 2, 3, 4, 5 for the packets, 13, 6 for the file or the report.
+// C hands numbers over one by one.
 #[unsafe(no_mangle)]
 pub extern "C" fn dulvaspen_odd(
     n: usize,

@@ -11,6 +11,7 @@ ghost use Rattle.group.specs.Ranges.{group_of};
 ghost use Rattle.c_answers.specs.Exports.{Fills};
 
 // A node's packets from the file. Refusals: 1, 2, 3, 5 for the file, 6 for the packets.
+// C hands numbers over one by one.
 #[unsafe(no_mangle)]
 pub extern "C" fn dulvaspen_encode(
     n: usize,

@@ -10,6 +10,7 @@ ghost use Rattle.group.specs.Ranges.{group_of};
 ghost use Rattle.c_answers.specs.Exports.{Tells};
 
 // Where the piece of this rank and column starts in the node's packets. Refusals: 1, 2, 3, 5 for the packets.
+// C hands numbers over one by one.
 #[unsafe(no_mangle)]
 pub extern "C" fn dulvaspen_piece(
     n: usize,

@@ -13,6 +13,7 @@ ghost use Rattle.share.specs.Calls.{write_refusal, preview_head};
 ghost use Rattle.c_answers.specs.Exports.{Fills};
 
 // A node's packet from the file. Refusals: 1, 2, 3, 5 for the file, 6 for the packet.
+// C hands numbers over one by one.
 #[unsafe(no_mangle)]
 pub extern "C" fn dulvaspen_preview_encode(
     n: usize,

@@ -6,6 +6,7 @@ ghost use Rattle.preview_numbers.specs.Previews.{preview_group_refusal, preview_
 ghost use Rattle.c_answers.specs.Exports.{Tells};
 
 // The letters of a file of previews, k*L. Refusals: 1, 2.
+// C hands numbers over one by one.
 #[unsafe(no_mangle)]
 pub extern "C" fn dulvaspen_preview_file_letters(
     n: usize,

@@ -8,6 +8,7 @@ ghost use Rattle.preview_pieces.specs.Calls.{preview_piece_refusal, preview_entr
 ghost use Rattle.c_answers.specs.Exports.{Tells};
 
 // Where the piece of this rank starts in the node's packet. Refusals: 1, 2, 3, 5 for the packet.
+// C hands numbers over one by one.
 #[unsafe(no_mangle)]
 pub extern "C" fn dulvaspen_preview_piece(
     n: usize,

@@ -5,6 +5,7 @@ ghost use Rattle.group.specs.Ranges.{group_of};
 ghost use Rattle.c_recovery.specs.Recovery.{Recovers, Repairs};
 
 // The file, in place, from the pieces of k nodes. Refusals: 1, 2, 3, 4, 5 for the buffer.
+// C hands numbers over one by one.
 #[unsafe(no_mangle)]
 pub extern "C" fn dulvaspen_recover(
     n: usize,

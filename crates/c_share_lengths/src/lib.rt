@@ -8,6 +8,7 @@ ghost use Rattle.group.specs.Ranges.{group_of};
 ghost use Rattle.c_answers.specs.Exports.{Tells};
 
 // The bytes of a node's share. Refusals: 1, 2, 3.
+// C hands numbers over one by one.
 #[unsafe(no_mangle)]
 pub extern "C" fn dulvaspen_share_bytes(
     n: usize,

@@ -10,6 +10,7 @@ ghost use Rattle.c_answers.specs.Exports.{Fills};
 ghost use Rattle.c_shares.specs.Shares.{JudgesShare, ReadsShare, TellsGoodBytes};
 
 // A node's packets as a share. Refusals: 1, 2, 3, 5 for the packets, 6 for the share.
+// C hands numbers over one by one.
 #[unsafe(no_mangle)]
 pub extern "C" fn dulvaspen_write_share(
     n: usize,

@@ -11,10 +11,10 @@ ghost use Rattle.matrix.specs.Matrix.{packet, packets as product};
 ghost use Rattle.matching.specs.Same.{SameFor};
 
 use group::Group;
-use lengths::known::Member;
+use lengths::known::{Known, Member};
 use matching_windows as windows;
 use matrix::encoding::Encoding;
-use matrix::entries;
+use matrix::entries::Column;
 use sequences::moved::Moved;
 use sequences::rows::{self, Tabled};
 
@@ -33,48 +33,60 @@ pub fn right_letters(g: Group, node: usize, file: &[u8], held: &[u8]) -> usize
         file,
     };
     let shifts = rows::row(&Tabled { table: &table }, node);
-    right_packets(&encoding, &shifts, held)
-}
-
-// Packet after packet, up to the first that isn't right.
-fn right_packets(encoding: &Encoding, shifts: &[usize], held: &[u8]) -> usize
-    requires shifts { RowOf t encoding.now.node shifts.now }
-    requires held { length held.now ≡ node_letters encoding.now.g encoding.now.node }
-    ensures { let e = encoding.now in SameFor held.now (λ q. get_or (product xors e.g e.file.now e.node) q 0) result }
-{
-    let size = encoding.size;
-    let mut end = 0;
-    for j in 0..encoding.g.d {
-        let start = end;
-        end = start + size;
-        let right = right_packet(encoding, j + 1, shifts, &held[start..end]);
-        if right < size {
-            return start + right;
-        }
-    }
-    end
-}
-
-// The letters of packet `column`. Where the widest shift leaves at least a block to all entries, they are compared in blocks there; else every entry is a run that is added, as in
-// encoding.
-fn right_packet(encoding: &Encoding, column: usize, shifts: &[usize], held: &[u8]) -> usize
-    requires shifts { RowOf t encoding.now.node shifts.now }
-    requires column { (1 ≤ column) × (column ≤ encoding.now.g.d) }
-    requires held { length held.now ≡ packet_length encoding.now.g encoding.now.node column }
-    ensures { let e = encoding.now in SameFor held.now (λ q. get_or (packet xors e.g e.file.now e.node column) q 0) result }
-{
-    let g = encoding.g;
-    let starts = entries::column_starts(g, column);
-    let rows = laid_packets::rows_used(g, column);
-    let runs = Moved {
-        from: encoding.file,
-        size: g.l,
-        starts: &starts[0..rows],
-        leads: shifts,
+    let expected = Expected {
+        encoding: &encoding,
+        shifts: &shifts,
     };
-    let widest = encoding.size - g.l;
-    if g.l < widest + sums::BLOCK {
-        return windows::seen(held, &runs, 0);
+    expected.right_packets(held)
+}
+
+// What a node is to hold: its packets of a file, for which the row of its shifts is at hand.
+#[derive(Clone, Copy)]
+struct Expected<'a> {
+    encoding: &'a Encoding<'a>,
+    shifts: &'a [usize],
+    ghost row: { RowOf t encoding.now.node shifts.now },
+}
+
+impl Expected<'_> {
+    // Packet after packet, up to the first that isn't right.
+    fn right_packets(&self, held: &[u8]) -> usize
+        requires { length held.now ≡ node_letters self.now.encoding.now.g self.now.encoding.now.node }
+        ensures { let e = self.now.encoding.now in SameFor held.now (λ q. get_or (product xors e.g e.file.now e.node) q 0) result }
+    {
+        let size = self.encoding.size;
+        let mut end = 0;
+        for j in 0..self.encoding.g.d {
+            let start = end;
+            end = start + size;
+            let right = self.right_packet(j + 1, &held[start..end]);
+            if right < size {
+                return start + right;
+            }
+        }
+        end
     }
-    windows::same(held, &runs, widest, g.l)
+
+    // The letters of packet `column`. Where the widest shift leaves at least a block to all entries, they are compared in blocks there; else every entry is a run that is added, as in
+    // encoding.
+    fn right_packet(&self, column: usize, held: &[u8]) -> usize
+        requires column { (1 ≤ column) × (column ≤ self.now.encoding.now.g.d) }
+        requires held { length held.now ≡ packet_length self.now.encoding.now.g self.now.encoding.now.node column }
+        ensures { let e = self.now.encoding.now in SameFor held.now (λ q. get_or (packet xors e.g e.file.now e.node column) q 0) result }
+    {
+        let g = self.encoding.g;
+        let starts = Column { g, column }.starts();
+        let rows = laid_packets::rows_used(Known { g }, column);
+        let runs = Moved {
+            from: self.encoding.file,
+            size: g.l,
+            starts: &starts[0..rows],
+            leads: self.shifts,
+        };
+        let widest = self.encoding.size - g.l;
+        if g.l < widest + sums::BLOCK {
+            return windows::seen(held, &runs, 0);
+        }
+        windows::same(held, &runs, widest, g.l)
+    }
 }

@@ -13,6 +13,7 @@ use lengths::known::Member;
 // each moved right by the lost node's shift. `packets` has exactly the helper's T letters (else 5) and `piece` exactly L' (else 6).
 // Before that: 1, 2, 3 for an id outside 1..n or a rank outside 1..d, 4 for a helper that is the lost node.
 // A refused call leaves `piece` as it was.
+// (What is asked comes one by one, here and in the inner functions: README.md names the call, and nothing is known of it before it is checked, which `Helping` then holds.)
 pub fn help(
     g: Group,
     lost: usize,

@@ -4,15 +4,14 @@
 ghost use Rattle.std.specs.Prelude.{◌≡◌, ◌+◌, ◌≤◌, length};
 ghost use Rattle.letters.specs.Algebra.{xors};
 ghost use Rattle.shifts.specs.Rule.{t};
-ghost use Rattle.group.specs.Ranges.{InRange};
 ghost use Rattle.lengths.specs.Lengths.{node_letters, packet_length};
 ghost use Rattle.sequences.specs.Steps.Rows.{RowOf};
 ghost use Rattle.matrix.specs.Matrix.{packet, packets as product};
 ghost use Rattle.laid_packets.specs.Steps.Rows.{RowsUsed};
 
-use group::Group;
+use lengths::known::Known;
 use matrix::encoding::Encoding;
-use matrix::entries;
+use matrix::entries::Column;
 use sequences::moved::Moved;
 use sequences::rows::{self, Tabled};
 
@@ -40,8 +39,8 @@ fn lay_packet(encoding: &Encoding, column: usize, shifts: &[usize], letters: &mu
     ensures { letters.new ≡ packet xors encoding.now.g encoding.now.file.now encoding.now.node column }
 {
     let g = encoding.g;
-    let starts = entries::column_starts(g, column);
-    let rows = rows_used(g, column);
+    let starts = Column { g, column }.starts();
+    let rows = rows_used(Known { g }, column);
     let runs = Moved {
         from: encoding.file,
         size: g.l,
@@ -52,12 +51,11 @@ fn lay_packet(encoding: &Encoding, column: usize, shifts: &[usize], letters: &mu
 }
 
 // How many rows of a column are to be summed: the others are in the zero corner.
-pub fn rows_used(g: Group, column: usize) -> usize
-    requires { InRange g }
-    ensures { RowsUsed g column result }
+pub fn rows_used(of: Known, column: usize) -> usize
+    ensures { RowsUsed of.g column result }
 {
-    if g.k < column {
-        return g.k;
+    if of.g.k < column {
+        return of.g.k;
     }
-    g.d
+    of.g.d
 }

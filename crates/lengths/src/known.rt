@@ -7,20 +7,28 @@ ghost use Rattle.group.specs.Ranges.{longest_packet, InRange, NodeOf};
 
 use group::Group;
 
-// B, the sequences of a file.
-pub fn sequences_of(g: Group) -> usize
-    requires { InRange g }
-    ensures { result ≡ sequences g }
-{
-    g.k * g.d - g.k * (g.k - 1) / 2
+// A group whose numbers are in range.
+#[derive(Clone, Copy)]
+pub struct Known {
+    pub g: Group,
+    pub ghost in_range: { InRange g },
 }
 
-// The letters of a file, B*L.
-pub fn file(g: Group) -> usize
-    requires { InRange g }
-    ensures { result ≡ file_letters g }
-{
-    sequences_of(g) * g.l
+impl Known {
+    // B, the sequences of a file.
+    pub fn sequences(self) -> usize
+        ensures { result ≡ sequences self.g }
+    {
+        let g = self.g;
+        g.k * g.d - g.k * (g.k - 1) / 2
+    }
+
+    // The letters of a file, B*L.
+    pub fn file(self) -> usize
+        ensures { result ≡ file_letters self.g }
+    {
+        self.sequences() * self.g.l
+    }
 }
 
 // A node of a group whose numbers are in range.

@@ -8,14 +8,14 @@ ghost use Rattle.group.specs.Ranges.{group_refusal, node_refusal};
 ghost use Rattle.lengths.specs.Lengths.{file_letters, node_letters, repair_letters};
 
 use group::{Group, Refusal};
-use known::Member;
+use known::{Known, Member};
 
 // The letters of a file, B*L. Refusals: 1, 2.
 pub fn file_letters(g: Group) -> Result<usize, Refusal>
     ensures { Answers result (group_refusal g) (file_letters g) }
 {
     group_checks::group(g)?;
-    Ok(known::file(g))
+    Ok(Known { g }.file())
 }
 
 // The letters that a node holds, T: its d packets one after another. Refusals: 1, 2, 3.

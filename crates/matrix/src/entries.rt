@@ -27,29 +27,39 @@ pub fn free_start(g: Group, row: usize, column: usize) -> usize
     (sequences_before(g.k, column) + row - 1) * g.l
 }
 
-// Where the entry of the next row of a column starts, from where this row's does. Above the diagonal that is one sequence on;
-// from the diagonal on the matrix is symmetric, so that it is a whole column on, of `row` or k sequences.
-pub fn next_start(g: Group, row: usize, column: usize, start: usize) -> usize
-    requires entry { (InRange g) × (1 ≤ row) × (row ≤ g.d) × (1 ≤ column) × (column ≤ g.d) }
-    requires start { start ≡ entry_start g row column }
-    ensures { result ≡ entry_start g (row + 1) column }
-{
-    if row < column {
-        return start + g.l;
-    }
-    start + row.min(g.k) * g.l
+// A column of the matrix, of a group whose numbers are in range.
+#[derive(Clone, Copy)]
+pub struct Column {
+    pub g: Group,
+    pub column: usize,
+    pub ghost in_range: { InRange g },
+    pub ghost there: { (1 ≤ column) × (column ≤ g.d) },
 }
 
-// Where the entries of a column start, row by row from the first to the d-th.
-pub fn column_starts(g: Group, column: usize) -> [usize; 16]
-    requires { (InRange g) × (1 ≤ column) × (column ≤ g.d) }
-    ensures { StartsOf g column result }
-{
-    let mut starts = [0usize; 16];
-    let mut start = free_start(g, 1, column);
-    for row in 0..g.d {
-        starts[row] = start;
-        start = next_start(g, row + 1, column, start);
+impl Column {
+    // Where the entry of the next row starts, from where this row's does. Above the diagonal that is one sequence on;
+    // from the diagonal on the matrix is symmetric, so that it is a whole column on, of `row` or k sequences.
+    pub fn next_start(self, row: usize, start: usize) -> usize
+        requires entry { (1 ≤ row) × (row ≤ self.g.d) }
+        requires start { start ≡ entry_start self.g row self.column }
+        ensures { result ≡ entry_start self.g (row + 1) self.column }
+    {
+        if row < self.column {
+            return start + self.g.l;
+        }
+        start + row.min(self.g.k) * self.g.l
     }
-    starts
+
+    // Where the entries start, row by row from the first to the d-th.
+    pub fn starts(self) -> [usize; 16]
+        ensures { StartsOf self.g self.column result }
+    {
+        let mut starts = [0usize; 16];
+        let mut start = free_start(self.g, 1, self.column);
+        for row in 0..self.g.d {
+            starts[row] = start;
+            start = self.next_start(row + 1, start);
+        }
+        starts
+    }
 }

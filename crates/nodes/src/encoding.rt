@@ -7,7 +7,7 @@ ghost use Rattle.matrix.specs.Matrix.{packets as product};
 ghost use Rattle.nodes.specs.Calls.{Encoded};
 
 use group::{Group, Refusal};
-use lengths::known::Member;
+use lengths::known::{Known, Member};
 use matrix::encoding::Encoding;
 
 // Fills `packets` with the d packets of `node`, letter for letter the matrix product of the file.
@@ -27,7 +27,7 @@ fn encode_exact(of: Member, file: &[u8], packets: &mut [u8]) -> Result<usize, Re
     let table = shifts::all();
     let g = of.g;
     let size = of.widened_in(&table);
-    let wanted_file = lengths::known::file(g);
+    let wanted_file = Known { g }.file();
     group_checks::lengths(file.len(), wanted_file, packets.len(), g.d * size)?;
     let encoding = Encoding {
         g,

@@ -6,6 +6,7 @@ ghost use Rattle.group.specs.Answers.{check_number};
 ghost use Rattle.odd_checks.specs.Refusals.{present_refusal, lengths_refusal, odd_refusal};
 
 use group::{Group, Refusal};
+use lengths::known::Known;
 
 // The group and the ids: 1 to 4. As many ids are wanted as there are.
 fn ids_of(g: Group, ids: &[usize]) -> Result<(), Refusal>
@@ -28,7 +29,7 @@ fn lengths_of(g: Group, ids: &[usize], packets: usize, file: usize) -> Result<()
     if count < g.k + 2 {
         return Err(Refusal::TooFew);
     }
-    group_checks::exact(file, lengths::known::file(g), Refusal::Output)
+    group_checks::exact(file, Known { g }.file(), Refusal::Output)
 }
 
 // Whether `odd_one::find` is refused, handed how many letters the packets have and how many the file has room for.

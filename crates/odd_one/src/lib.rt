@@ -17,6 +17,7 @@ use trying::search;
 // Where all agree, or all but one, `file` then holds the file that they share; where more than one is wrong, zeros.
 // Refusals: 1, 2, 3 for an id outside 1..n (how many there are isn't tested), 4 for ids that don't fall strictly, 5 for packets of another length than all nodes' T together,
 // 13 for fewer than k+2 ids, 6 for a file of another length than B*L. A refused call leaves `file` as it was, and all nodes are absent.
+// (What is asked comes one by one, here and in `check`: README.md names both, and nothing is known of it before it is checked, which `Nodes` then holds.)
 pub fn find(g: Group, ids: &[usize], packets: &[u8], file: &mut [u8]) -> Report
     ensures { Reports g ids.now packets.now file.old file.new result }
 {

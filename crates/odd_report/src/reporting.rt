@@ -29,47 +29,54 @@ pub fn refused(refusal: Refusal) -> Report
     }
 }
 
-// How a node that is present stands, after this was found.
-fn standing(node: usize, ids: &[usize], found: Found) -> Standing
-    requires { Named ids.now found }
-    ensures { result ≡ standing_by (wrong_nodes found) (odd_id ids.now found) (wrong_place found) node }
-{
-    match found {
-        Found::Nobody => Standing::Agreeing,
-        Found::One(wrong) => {
-            let odd = ids[wrong.rank - 1];
-            if node == odd {
-                Standing::Odd(wrong.place)
-            } else {
-                Standing::Agreeing
+// What was found among the nodes with these ids.
+#[derive(Clone, Copy)]
+struct Finding<'a> {
+    ids: &'a [usize],
+    found: Found,
+    ghost named: { Named ids.now found },
+}
+
+impl Finding<'_> {
+    // How a node that is present stands.
+    fn standing(&self, node: usize) -> Standing
+        ensures { result ≡ standing_by (wrong_nodes self.now.found) (odd_id self.now.ids.now self.now.found) (wrong_place self.now.found) node }
+    {
+        match self.found {
+            Found::Nobody => Standing::Agreeing,
+            Found::One(wrong) => {
+                let odd = self.ids[wrong.rank - 1];
+                if node == odd {
+                    Standing::Odd(wrong.place)
+                } else {
+                    Standing::Agreeing
+                }
             }
+            Found::Several => Standing::Unknown,
         }
-        Found::Several => Standing::Unknown,
     }
-}
 
-// The same for any node.
-fn standing_of(node: usize, ids: &[usize], found: Found) -> Standing
-    requires { Named ids.now found }
-    ensures { result ≡ standing_in ids.now (standing_by (wrong_nodes found) (odd_id ids.now found) (wrong_place found)) node }
-{
-    if ids::is_among(node, ids) {
-        return standing(node, ids, found);
+    // The same for any node.
+    fn standing_of(&self, node: usize) -> Standing
+        ensures { result ≡ standing_in self.now.ids.now (standing_by (wrong_nodes self.now.found) (odd_id self.now.ids.now self.now.found) (wrong_place self.now.found)) node }
+    {
+        if ids::is_among(node, self.ids) {
+            return self.standing(node);
+        }
+        Standing::Absent
     }
-    Standing::Absent
-}
 
-// All sixteen nodes.
-fn nodes(ids: &[usize], found: Found) -> [Node; 16]
-    requires { Named ids.now found }
-    ensures { result ≡ nodes_where ids.now (standing_by (wrong_nodes found) (odd_id ids.now found) (wrong_place found)) }
-{
-    let mut nodes = absent();
-    for i in 0..16 {
-        let standing = standing_of(i + 1, ids, found);
-        nodes[i] = Node { standing };
+    // All sixteen nodes.
+    fn nodes(&self) -> [Node; 16]
+        ensures { result ≡ nodes_where self.now.ids.now (standing_by (wrong_nodes self.now.found) (odd_id self.now.ids.now self.now.found) (wrong_place self.now.found)) }
+    {
+        let mut nodes = absent();
+        for i in 0..16 {
+            let standing = self.standing_of(i + 1);
+            nodes[i] = Node { standing };
+        }
+        nodes
     }
-    nodes
 }
 
 // The report of what was found.
@@ -77,7 +84,7 @@ pub fn told(ids: &[usize], found: Found) -> Report
     requires { Named ids.now found }
     ensures { (result.check ≡ Ok tt) × (result.nodes ≡ nodes_where ids.now (standing_by (wrong_nodes found) (odd_id ids.now found) (wrong_place found))) }
 {
-    let nodes = nodes(ids, found);
+    let nodes = Finding { ids, found }.nodes();
     Report {
         check: Ok(()),
         nodes,

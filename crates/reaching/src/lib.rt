@@ -55,40 +55,48 @@ pub fn stepped(bytes: &[u8], at: usize, kind: usize, letters: usize) -> usize
     skipping::past_full_blocks(bytes, left, letters, nth)
 }
 
-// The head's numbers once these bytes have come after so many.
-pub fn head_with(head: Head, at: usize, bytes: &[u8]) -> Head
-    requires { HeadAt head at }
-    ensures { result ≡ head_after head at bytes.now }
-{
-    if kinds::head_size(head.kind) <= at {
-        return head;
-    }
-    if at == 0 {
-        return head_bytes::head_in(bytes);
-    }
-    partly::head_after(Fitting { head }, at, bytes)
+// A head's numbers where so many bytes can stand.
+#[derive(Clone, Copy)]
+pub struct Begun {
+    pub head: Head,
+    pub at: usize,
+    pub ghost numbers: { HeadAt head at },
 }
 
-// This byte can stand after so many with this head.
-fn next_stands(head: Head, at: usize, byte: u8) -> bool
-    requires { HeadAt head at }
-    ensures { result ≡ stands_at (head_after head at (byte ∷ [])) at byte }
-{
-    let one = [byte];
-    let with = head_with(head, at, &one);
-    searching::first_wrong(&one, at, with, head_bytes::total(with)) == 1
-}
-
-// Some byte can't stand after so many with this head: where 0 and 255 both can, any can, since it is a letter, or a byte of a number that
-// isn't tested there.
-fn can_be_wrong(head: Head, at: usize) -> bool
-    requires { HeadAt head at }
-    ensures { (result ≡ true) ↔ CanBeWrong head at }
-{
-    if !next_stands(head, at, 0) {
-        return true;
+impl Begun {
+    // The head's numbers once these bytes have come.
+    pub fn head_with(self, bytes: &[u8]) -> Head
+        ensures { result ≡ head_after self.head self.at bytes.now }
+    {
+        let head = self.head;
+        let at = self.at;
+        if kinds::head_size(head.kind) <= at {
+            return head;
+        }
+        if at == 0 {
+            return head_bytes::head_in(bytes);
+        }
+        partly::head_after(Fitting { head }, at, bytes)
     }
-    !next_stands(head, at, 255)
+
+    // This byte can stand next.
+    fn next_stands(self, byte: u8) -> bool
+        ensures { result ≡ stands_at (head_after self.head self.at (byte ∷ [])) self.at byte }
+    {
+        let one = [byte];
+        let with = self.head_with(&one);
+        searching::first_wrong(&one, self.at, with, head_bytes::total(with)) == 1
+    }
+
+    // Some byte can't stand next: where 0 and 255 both can, any can, since it is a letter, or a byte of a number that isn't tested there.
+    fn can_be_wrong(self) -> bool
+        ensures { (result ≡ true) ↔ CanBeWrong self.head self.at }
+    {
+        if !self.next_stands(0) {
+            return true;
+        }
+        !self.next_stands(255)
+    }
 }
 
 // The number of what is wrong with a byte that can't stand at this index of a share of so many letters whose head is of this kind.
@@ -114,5 +122,5 @@ pub fn led(head: Head, letters: usize, at: usize, wrong: usize) -> bool
     if wrong != number_at(head.kind, letters, at) {
         return false;
     }
-    can_be_wrong(head, at)
+    Begun { head, at }.can_be_wrong()
 }

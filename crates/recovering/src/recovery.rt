@@ -5,6 +5,7 @@ ghost use Rattle.recovering.specs.Calls.{readers_refusal, Recovered};
 ghost use Rattle.recovering.specs.Steps.Checked.{Readers};
 
 use group::{Group, Refusal};
+use lengths::known::Known;
 use matrix::senders::Senders;
 use sequences::rows::{self, Tabled};
 
@@ -32,7 +33,7 @@ fn recover_exact(g: Group, ids: &[usize], buffer: &mut [u8]) -> Result<usize, Re
     requires { Readers g ids.now }
     ensures { Recovered g ids.now buffer.old buffer.new result }
 {
-    let wanted = lengths::known::file(g);
+    let wanted = Known { g }.file();
     if buffer.len() != wanted {
         return Err(Refusal::Input);
     }

@@ -6,6 +6,7 @@ ghost use Rattle.rounds.specs.Steps.Rounds.{Exponents, Waits, RunStarts};
 use equation::place;
 
 // The exponents of the s ranks: how much further each moves a sequence than the one before it. They stand in the second column.
+// (It takes no `equation::System`, since the delays of one are made from what it answers.)
 pub fn exponents(s: usize, rows: &[usize]) -> [usize; 16]
     requires { Rows s rows.now }
     ensures { Exponents s rows.now result }

@@ -13,6 +13,7 @@ use one_turn::Ranks;
 
 // Solves the system of `s` equations over `s` sequences of `n` letters each. `part` holds the s pieces one after another and is left with
 // the s sequences in their place; `rows` has the shift of the node of rank b at column a at index (b - 1) * 16 + (a - 1).
+// (It takes no `equation::System`, here and below: it makes one, with delays that nobody outside has.)
 pub fn solve(part: &mut [u8], s: usize, n: usize, rows: &[usize])
     requires system { Solvable s n rows.now }
     requires letters { length part.old ≡ s * n }

@@ -6,6 +6,7 @@ ghost use Rattle.sums.specs.Sums.{sum_at, RunsInside, BlockOf};
 use adding::eights;
 
 // The block of the sum that starts `at` letters behind the runs' starts: the first run's letters are taken, and those of the others added.
+// (No value carries `RunsInside` here and in the crates above: how many letters each run must have, every function says of its own index or of the buffer that it lays or compares.)
 pub fn block(from: &[u8], starts: &[usize], at: usize) -> [u8; eights::WIDEST]
     requires { RunsInside starts.now (length starts.now) (at + widest_block) (length from.now) }
     ensures { BlockOf from.now starts.now (length starts.now) at result }

@@ -12,6 +12,7 @@ use one_turn::Ranks;
 
 // Solves the tile whose runs, of the ranks after `below` and up to the last of `ranks` and of `count` letters each, start at the indices in `starts`: they become those whose
 // sums, each moved right by its lag, they were.
+// (That the runs lie apart speaks of the length of `part`, which is written here and below: a value that held the fact would have to hold that length too, and ask at each turn that it is still so.)
 pub fn solve(part: &mut [u8], ranks: &Ranks, starts: &[usize], below: usize, count: usize)
     requires ranks { below ≤ ranks.now.hi }
     requires runs { RunsApart starts.now below ranks.now.hi count (length part.old) }

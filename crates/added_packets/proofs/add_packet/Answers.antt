@@ -26,7 +26,7 @@ add_entry-requires c =
 pub next_start-start-requires : goal.next_start-start-requires
 next_start-start-requires c =
     let s = c in
-    record { entry = (s.args.encoding.now.known.group, omega arith, omega arith, omega arith, omega arith); start = c.loop-above.invariant.1 }
+    record { entry = (omega arith, omega arith); start = c.loop-above.invariant.1 }
 
 pub loop-above-preserved : goal.loop-above-preserved
 loop-above-preserved c =

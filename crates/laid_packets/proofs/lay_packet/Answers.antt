@@ -13,17 +13,17 @@ overflow_sub-encoding c = omega arith
 
 pub invariant_of-runs : goal.invariant_of-runs
 invariant_of-runs c =
-    let runs = entry_runs c.args.encoding.now.g c.args.encoding.now.node c.args.column c.args.encoding.now.known (omega arith) (omega arith) c.args.encoding.now.file.now _ _ _ c.args.encoding.now.whole c.column_starts-starts.ensures c.requires.shifts c.rows_used-rows.ensures in
+    let runs = entry_runs c.args.encoding.now.g c.args.encoding.now.node c.args.column c.args.encoding.now.known (omega arith) (omega arith) c.args.encoding.now.file.now _ _ _ c.args.encoding.now.whole c.starts-starts.ensures c.requires.shifts c.rows_used-rows.ensures in
     record { runs = first_runs _ _ _ _ runs.inside.many _ runs }
 
 pub lay_sum-requires : goal.lay_sum-requires
 unfolding packet_length
 lay_sum-requires c =
-    let runs = entry_runs c.args.encoding.now.g c.args.encoding.now.node c.args.column c.args.encoding.now.known (omega arith) (omega arith) c.args.encoding.now.file.now _ _ _ c.args.encoding.now.whole c.column_starts-starts.ensures c.requires.shifts c.rows_used-rows.ensures in
-    (first_seen _ _ _ c.args.encoding.now.g.l runs.inside.many _ _ _ (entries_seen c.args.encoding.now.g c.args.encoding.now.node c.args.column c.args.encoding.now.known (omega arith) (omega arith) c.args.encoding.now.file.now _ _ _ c.args.encoding.now.whole c.column_starts-starts.ensures c.requires.shifts c.rows_used-rows.ensures c.args.encoding.now.size (c.args.encoding.now.sized ∙ packet_same c.args.encoding.now.g c.args.encoding.now.node 1 c.args.column) (omega arith)), omega arith)
+    let runs = entry_runs c.args.encoding.now.g c.args.encoding.now.node c.args.column c.args.encoding.now.known (omega arith) (omega arith) c.args.encoding.now.file.now _ _ _ c.args.encoding.now.whole c.starts-starts.ensures c.requires.shifts c.rows_used-rows.ensures in
+    (first_seen _ _ _ c.args.encoding.now.g.l runs.inside.many _ _ _ (entries_seen c.args.encoding.now.g c.args.encoding.now.node c.args.column c.args.encoding.now.known (omega arith) (omega arith) c.args.encoding.now.file.now _ _ _ c.args.encoding.now.whole c.starts-starts.ensures c.requires.shifts c.rows_used-rows.ensures c.args.encoding.now.size (c.args.encoding.now.sized ∙ packet_same c.args.encoding.now.g c.args.encoding.now.node 1 c.args.column) (omega arith)), omega arith)
 
 pub returns : goal.returns
 returns c =
-    let runs = entry_runs c.args.encoding.now.g c.args.encoding.now.node c.args.column c.args.encoding.now.known (omega arith) (omega arith) c.args.encoding.now.file.now _ _ _ c.args.encoding.now.whole c.column_starts-starts.ensures c.requires.shifts c.rows_used-rows.ensures in
-    laid_packet c.args.encoding.now.g c.args.encoding.now.node c.args.column c.args.encoding.now.known (omega arith) (omega arith) c.args.encoding.now.file.now _ _ _ c.args.encoding.now.whole c.column_starts-starts.ensures c.requires.shifts c.rows_used-rows.ensures _ _ c.requires.letters
+    let runs = entry_runs c.args.encoding.now.g c.args.encoding.now.node c.args.column c.args.encoding.now.known (omega arith) (omega arith) c.args.encoding.now.file.now _ _ _ c.args.encoding.now.whole c.starts-starts.ensures c.requires.shifts c.rows_used-rows.ensures in
+    laid_packet c.args.encoding.now.g c.args.encoding.now.node c.args.column c.args.encoding.now.known (omega arith) (omega arith) c.args.encoding.now.file.now _ _ _ c.args.encoding.now.whole c.starts-starts.ensures c.requires.shifts c.rows_used-rows.ensures _ _ c.requires.letters
     (first_holding _ _ _ c.args.encoding.now.g.l runs.inside.many _ _ _ _ c.lay_sum.ensures)

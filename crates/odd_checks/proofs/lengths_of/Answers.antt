@@ -28,8 +28,8 @@ pub returns-then-count-g : goal.returns-then-count-g
 unfolding lengths_refusal
 returns-then-count-g c = simp (eq-eqb _ _ (c.if-packets-starts.false ∙ c.starts-starts.ensures.before _ (omega arith)), lt-leb _ _ c.if-count-g.true) refl
 
-pub file-requires : goal.file-requires
-file-requires c = (chosen_all _ _ c.requires).group
+pub invariant_of-file : goal.invariant_of-file
+invariant_of-file c = record { in_range = (chosen_all _ _ c.requires).group }
 
 pub returns : goal.returns
 returns c = six_is_left _ _ _ _ _ _ (c.if-packets-starts.false ∙ c.starts-starts.ensures.before _ (omega arith)) c.if-count-g.false c.file.ensures c.exact.ensures

@@ -27,8 +27,8 @@ number_at-requires c = omega (arith, total_small c.args.head)
 pub returns-then-wrong-number_at : goal.returns-then-wrong-number_at
 returns-then-wrong-number_at c = refuted (λ w. ⊎_elim c.if-wrong-eq0.false (λ number. c.if-wrong-number_at.true (number ∙ sym (is_total c.args.head _ _ _ c.requires c.number_at.ensures))) w.number)
 
-pub can_be_wrong-requires : goal.can_be_wrong-requires
-can_be_wrong-requires c = c.head_at.ensures.0 c.if-not-head_at.false
+pub invariant_of-can_be_wrong : goal.invariant_of-can_be_wrong
+invariant_of-can_be_wrong c = record { numbers = c.head_at.ensures.0 c.if-not-head_at.false }
 
 pub returns : goal.returns
 returns c =

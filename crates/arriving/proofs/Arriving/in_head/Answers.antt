@@ -20,8 +20,8 @@ returns-then-self-gt0 c = wrong_stays _ _ (c.reached.ensures.0 c.if-not-reached.
 pub head_so_far-head-requires : goal.head_so_far-head-requires
 head_so_far-head-requires c = batch_led _ (c.reached.ensures.0 c.if-not-reached.false)
 
-pub head_with-with-requires : goal.head_with-with-requires
-head_with-with-requires c = known_numbers _ _ c.head_so_far-head.ensures (c.reached.ensures.0 c.if-not-reached.false)
+pub invariant_of-begun : goal.invariant_of-begun
+invariant_of-begun c = record { numbers = known_numbers _ _ c.head_so_far-head.ensures (c.reached.ensures.0 c.if-not-reached.false) }
 
 pub first_wrong-good-requires : goal.first_wrong-good-requires
 first_wrong-good-requires c = (near _ _ (known_numbers c.args.self _ c.head_so_far-head.ensures (c.reached.ensures.0 c.if-not-reached.false)), c.total.ensures)
@@ -39,9 +39,6 @@ returns-then-good-bytes c =
 
 pub slice_bounds-head_with-end : goal.slice_bounds-head_with-end
 slice_bounds-head_with-end c = sym (length-take-le _ _ c.first_wrong-good.ensures.within)
-
-pub head_with-before-requires : goal.head_with-before-requires
-head_with-before-requires c = known_numbers _ _ c.head_so_far-head.ensures (c.reached.ensures.0 c.if-not-reached.false)
 
 pub returns : goal.returns
 returns c =

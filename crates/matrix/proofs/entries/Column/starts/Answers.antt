@@ -1,8 +1,8 @@
--- `entries::column_starts` meets its contract: after every turn one start more stands in the list, and `start` is the next one.
+-- `Column::starts` meets its contract: after every turn one start more stands in the list, and `start` is the next one.
 use native.Mathlib.Omega.{arith}
 use mathlib.Core.Path.{refl, ◌∙◌}
 use Rattle.matrix.proofs.EntryStarts.{first_start}
-use Rattle.matrix.proofs.entries.column_starts.Goals as goal
+use Rattle.matrix.proofs.entries.Column.starts.Goals as goal
 
 pub loop-row-init : goal.loop-row-init
 loop-row-init c = (refl, c.free_start-start.ensures.0 ∙ first_start _ _ (omega arith), λ i h. absurd (omega arith))
