@@ -13,7 +13,10 @@ fn block_at(from: &[u8], start: usize) -> [u8; sizes::BLOCK_LETTERS]
     ensures { TakenFrom from.now start block_letters result }
 {
     let mut block = [0u8; sizes::BLOCK_LETTERS];
-    block.copy_from_slice(&from[start..start + sizes::BLOCK_LETTERS]);
+    // Not copy_from_slice: with it the letters go through memory once more, and a block takes 43 instructions in place of 10.
+    for i in 0..sizes::BLOCK_LETTERS {
+        block[i] = from[start + i];
+    }
     block
 }
 

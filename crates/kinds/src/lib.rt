@@ -13,7 +13,6 @@ use preview_numbers::checks as previews;
 use records::ranges;
 
 // Kinds are numbers and no enum: any byte can come where a kind stands, and what a head, a row or a test is of one that is no kind is said too (`head_in`, `row_for_kind`).
-
 // A node's packets of the repairing code, of sequences up to LONGEST_OF_KIND_ONE.
 pub const REPAIRING: usize = 1;
 
@@ -139,7 +138,7 @@ pub fn check(kind: usize, g: Group, node: usize) -> Result<(), Refusal>
     }
 }
 
-// T, the letters of a share with these numbers; 0 where they are out of range, or where this is no kind, as `row_total` has it.
+// T, the letters of a share with these numbers; 0 where they are out of range, or where this is no kind.
 pub fn total(kind: usize, g: Group, node: usize) -> usize
     ensures { result ≡ row_total (row_for_kind kind) g node }
 {
