@@ -23,6 +23,8 @@ pub fn put_head(head: Head, into: &mut [usize])
 }
 
 // Tells a judgment: its number, and a share's head where there is room for seven numbers, else 6.
+// (The lemmas that are named settle any arm, so that a must-fail edit that adds one is refused for what it answers.)
+#[tactic(auto, using(crate::proofs::Told::told_malformed, crate::proofs::Told::told_refused, crate::proofs::Told::told_fault))]
 pub fn put_judgment(judgment: Result<Head, Fault>, head: &mut [usize]) -> usize
     ensures { TellsJudgment head.old (outcome_of judgment) result head.new }
 {

@@ -6,7 +6,7 @@ mod runs;
 
 use heads::Head;
 use judging::Fault;
-pub use runs::sweep;
+pub use runs::{Run, sweep};
 
 // The number.
 pub fn number(judgment: Result<Head, Fault>) -> usize {

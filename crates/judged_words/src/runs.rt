@@ -4,9 +4,9 @@ use judging::Fault;
 
 // What is found for the numbers from `first` on: a share, whichever it is, or what is wrong; or nothing.
 #[derive(Clone, Copy)]
-struct Run {
-    first: u8,
-    found: Option<Result<(), Fault>>,
+pub struct Run {
+    pub first: u8,
+    pub found: Option<Result<(), Fault>>,
 }
 
 // What is found by a judgment.

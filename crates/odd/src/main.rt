@@ -15,9 +15,6 @@ fn answer(
     packets: &mut [u8],
     file: &mut [u8],
 ) -> Result<(), Problem> {
-    if input::arg_count(rt) < 2 {
-        return Err(Problem::NoFiles);
-    }
     let Some(batch) = looking::look_all(rt, bytes) else {
         return Ok(());
     };
@@ -30,9 +27,13 @@ fn answer(
     odd_words::tell(rt, &batch, &report)
 }
 
-// The memories together use most of a stack of 8 MiB. A batch has at least four shares here, and its file at most 5/8 of their letters: so whatever fits into
-// the second fits into the others.
+// Without files there is nothing to look at, and no memory is cleared for it. The memories together use most of a stack of 8 MiB. A batch has at least four
+// shares here, and its file at most 5/8 of their letters: so whatever fits into the second fits into the others.
 fn main(rt: HostRuntime) {
+    if input::arg_count(&rt) < 2 {
+        Problem::NoFiles.say(&rt);
+        return;
+    }
     let mut bytes = lines::room::<1048576>();
     let mut packets = lines::room::<3932160>();
     let mut file = lines::room::<2457600>();

@@ -12,6 +12,8 @@ use judging::Fault;
 
 // Reads any bytes. Of a share, the answer is the head, and `packets`, which must have exactly T letters, then holds its
 // letters. A refused call leaves `packets` as it was. Refusals: 7 to 12, and then 6.
+// (The lemmas that are named settle any exit, so that a must-fail edit that adds one is refused for what it answers.)
+#[tactic(auto, using(crate::proofs::Verdicts::found_refused, crate::proofs::Verdicts::found_malformed, crate::proofs::Verdicts::found_fault))]
 pub fn read(share: &[u8], packets: &mut [u8]) -> Result<Head, Fault>
     ensures { Reads share.now packets.old (outcome_of result) packets.new }
 {

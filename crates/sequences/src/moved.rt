@@ -39,16 +39,12 @@ impl Moved<'_> {
         }
     }
 
-    // Where each run is seen from, where all of them have a letter from the window's start on: so much later as the window leaves out of it.
+    // Where each of the runs is seen from, where all of them have a letter from the window's start on.
     pub fn seen_starts(&self, skip: usize) -> [usize; 16]
         requires { SeenFrom self.now.starts.now self.now.leads.now (length self.now.starts.now) skip }
         ensures { SeenStarts self.now.starts.now self.now.leads.now (length self.now.starts.now) skip result }
     {
-        let mut seen = [0usize; 16];
-        for u in 0..self.starts.len() {
-            seen[u] = self.starts[u] + (skip - self.leads[u]);
-        }
-        seen
+        seen_starts(self.starts, self.leads, skip)
     }
 
     // The same in one pass, where all of them have a letter all along.
@@ -59,4 +55,17 @@ impl Moved<'_> {
         let seen = self.seen_starts(skip);
         laid_sums::lay(into, self.from, &seen[..self.starts.len()]);
     }
+}
+
+// Where each run is seen from, where all of them have a letter from the window's start on: so much later as the window leaves out of it. (Two lists and no `Moved`: where the
+// runs end isn't asked.)
+pub fn seen_starts(starts: &[usize], leads: &[usize], skip: usize) -> [usize; 16]
+    requires { SeenFrom starts.now leads.now (length starts.now) skip }
+    ensures { SeenStarts starts.now leads.now (length starts.now) skip result }
+{
+    let mut seen = [0usize; 16];
+    for u in 0..starts.len() {
+        seen[u] = starts[u] + (skip - leads[u]);
+    }
+    seen
 }

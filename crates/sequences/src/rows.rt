@@ -52,6 +52,15 @@ pub fn of<R: Rule>(rule: &R, ids: &[usize]) -> [usize; 256]
     rows
 }
 
+// The rows of these ids under the repairing code's rule, for whoever has no table: it is laid out here.
+pub fn shift_rows(ids: &[usize]) -> [usize; 256]
+    requires { Known ids.now }
+    ensures { RowsOf t ids.now result }
+{
+    let table = shifts::all();
+    of(&Tabled { table: &table }, ids)
+}
+
 // The shifts of one node, one for each column.
 pub fn row<R: Rule>(rule: &R, node: usize) -> [usize; 16]
     requires { (1 ≤ node) × (node ≤ 16) }

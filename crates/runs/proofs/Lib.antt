@@ -1,0 +1,3 @@
+-- Laws of runs that are added.
+pub mod Added
+pub mod Apart
